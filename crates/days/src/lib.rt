@@ -1,0 +1,48 @@
+// What is a day number: the range, and the weekday.
+ghost use mathlib.Core.Path.{_≡_};
+ghost use Prim.Native.Nat.{_<_, _≤_};
+ghost use Rattle.days.specs.Range.{outOfRange};
+ghost use Rattle.days.specs.Weekday.{weekdayAnswer};
+ghost use Rattle.days.specs.Weekday.{weekday as Weekday·weekday};
+
+// 1 Tishri 1.
+pub const FIRST_DAY: u64 = 347_998;
+// 29 Elul 9999.
+pub const LAST_DAY: u64 = 4_000_075;
+
+#[repr(C)]
+pub struct WeekdayAnswer {
+    pub refusal: u64,
+    pub weekday: u64,
+}
+
+// Is the day number outside the range?
+pub fn out_of_range(day: u64) -> bool
+    ensures { λ r. ⌜ r ≡ outOfRange day ⌝ }
+{
+    (day < FIRST_DAY) | (LAST_DAY < day)
+}
+
+// A step, for numbers near the range: 1 Sunday to 7 Saturday.
+pub fn weekday_of(day: u64) -> u64
+    requires { ⌜ day ≤ 5000000 ⌝ }
+    ensures { λ r. ⌜ r ≡ Weekday·weekday day ⌝ }
+{
+    (day + 1) % 7 + 1
+}
+
+// Refusal 4 outside the range.
+pub fn weekday(day: u64) -> WeekdayAnswer
+    ensures { λ r. ⌜ r ≡ weekdayAnswer day ⌝ }
+{
+    if out_of_range(day) {
+        return WeekdayAnswer {
+            refusal: 4,
+            weekday: 0,
+        };
+    }
+    WeekdayAnswer {
+        refusal: 0,
+        weekday: weekday_of(day),
+    }
+}

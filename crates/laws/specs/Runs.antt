@@ -1,0 +1,24 @@
+-- Tests that the checker computes, over a run of numbers and over a table; and "x lies from a to b".
+use mathlib.Core.Bool.{Bool, true, false, _&&_, _||_}
+use mathlib.Core.List.{List, [], _∷_}
+use Prim.Native.Nat.{ℕ, zero, suc}
+use lib.Dec.{eqb, ltb}
+
+-- The test p passes at each of the n numbers from a on.
+unfoldable pub every : ℕ → ℕ → (ℕ → Bool) → Bool
+every a zero p = true
+every a (suc n) p = p a && every (suc a) n p
+
+-- The test p passes at each entry of the table.
+unfoldable pub eachOf : List ℕ → (ℕ → Bool) → Bool
+eachOf [] p = true
+eachOf (x ∷ l) p = p x && eachOf l p
+
+-- x is an entry of the list.
+abbrev pub elem : ℕ → List ℕ → Bool
+elem x [] = false
+elem x (y ∷ l) = eqb x y || elem x l
+
+-- x lies below a or above b.
+abbrev pub outside : ℕ → ℕ → ℕ → Bool
+outside a b x = ltb x a || ltb b x

@@ -1,0 +1,1 @@
+// The lemmas that several crates cite stand in specs/ and proofs/.
