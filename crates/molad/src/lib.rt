@@ -6,10 +6,13 @@
 // leaves tells whether the year, and the one before it, is leap.
 mod months;
 mod parts;
+
 ghost use mathlib.Core.Path.{_≡_};
 ghost use Rattle.molad.specs.Answers.{moladAnswer};
-pub use months::{Months, months_before};
-pub use parts::{Molad, molad_after};
+pub use months::Months;
+pub use months::months_before;
+pub use parts::Molad;
+pub use parts::molad_after;
 
 #[repr(C)]
 pub struct MoladAnswer {

@@ -1,0 +1,4 @@
+pub mod Delays
+pub mod NewYear
+pub mod Kinds
+pub mod Answers
