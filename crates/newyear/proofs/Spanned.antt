@@ -5,7 +5,7 @@ use native.Mathlib.Omega.{arith}
 use Rattle.newyear.specs.NewYear.{newYear, yearLength}
 use Rattle.newyear.specs.Spans.{Spans}
 use Rattle.newyear.specs.declared.span.Span.{Span}
-use Rattle.newyear.proofs.Lengths.{length-bounds}
+use Rattle.newyear.proofs.Lengths.{length-in}
 use Rattle.newyear.proofs.Rise.{rise-le}
 use Rattle.newyear.proofs.YearOf.{first, near}
 
@@ -14,7 +14,6 @@ unfolding yearLength
 spans h s l u y b d =
     let n = near h l (omega arith) in
     let r = rise-le 1 h (omega arith) l (omega arith) in
-    let k = length-bounds h l (omega arith) in
     record {
       year = y;
       begins = b;
@@ -23,6 +22,5 @@ spans h s l u y b d =
       last = u;
       from = omega (arith, first);
       small = omega arith;
-      short = omega arith;
-      long = omega arith;
+      measured = rw d (length-in h l (omega arith));
     }
