@@ -65,23 +65,14 @@ pub fn hebrew_to_day(year: u64, month: u64, day: u64) -> HebrewDay
     ensures { λ r. ⌜ r ≡ hebrewDay year month day ⌝ }
 {
     if (year < 1) | (9999 < year) {
-        return HebrewDay {
-            refusal: 1,
-            day: 0,
-        };
+        return HebrewDay { refusal: 1, day: 0 };
     }
     let span = newyear::year_span(year);
     if months::no_month(span.length, month) {
-        return HebrewDay {
-            refusal: 2,
-            day: 0,
-        };
+        return HebrewDay { refusal: 2, day: 0 };
     }
     if (day < 1) | (days_in(span.length, month) < day) {
-        return HebrewDay {
-            refusal: 3,
-            day: 0,
-        };
+        return HebrewDay { refusal: 3, day: 0 };
     }
     HebrewDay {
         refusal: 0,

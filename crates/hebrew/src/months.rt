@@ -19,8 +19,16 @@ pub fn days_in(length: u64, month: u64) -> u64
     ensures { λ r. ⌜ r ≡ monthLength length month ⌝ }
 {
     match month {
-        2 => if (length == 355) | (length == 385) { 30 } else { 29 },
-        3 => if (length == 353) | (length == 383) { 29 } else { 30 },
+        2 => if (length == 355) | (length == 385) {
+            30
+        } else {
+            29
+        },
+        3 => if (length == 353) | (length == 383) {
+            29
+        } else {
+            30
+        },
         6 => if 383 <= length { 30 } else { 0 },
         1 => 30,
         4..=5 => 25 + month,
