@@ -1,4 +1,6 @@
 pub mod Counted
 pub mod Cycle
+pub mod Found
 pub mod One
+pub mod Stores
 pub mod Tests
