@@ -1,2 +1,5 @@
 pub mod Places
+pub mod RestOfYear
+pub mod Rows
+pub mod ShortRuns
 pub mod Walk
