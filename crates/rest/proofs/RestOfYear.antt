@@ -82,8 +82,13 @@ module _ (table : List Feast) (ok : passes table ≡ true) where
     unfolding restDay isRest restAt dateOf
     rest-placed x d =
         let z : newYear h + x - newYear h ≡ x = omega arith in
-        rw (in-range h l u x d, saturday (newYear h) x, year-is (newYear h + x) h (day-of-year h l u x d), z,
-          in-table h len x (length-in h l (omega arith)) d table rows-good)
+        rw (
+          in-range h l u x d,
+          saturday (newYear h) x,
+          year-is (newYear h + x) h (day-of-year h l u x d),
+          z,
+          in-table h len x (length-in h l (omega arith)) d table rows-good,
+        )
 
     -- 1 Tishri is a rest day.
     pub new-year-rests : restDay table (newYear h) ≡ true

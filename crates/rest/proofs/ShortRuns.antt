@@ -98,9 +98,9 @@ module _ (p : ℕ → Bool) (few : NoFour p) where
           record {
             pass = g;
             before =
-              decided (p (n - 2 - 1)) (n - 2 - 1)
-              (λ z. few (n - 2 - 1) z (at (n - 2) (n - 2 - 1 + 1) (omega arith) g) (at (n - 1) (n - 2 - 1 + 2) (omega arith) e) (at n (n - 2 - 1 + 3) (omega arith) a))
-              refl;
+                decided (p (n - 2 - 1)) (n - 2 - 1)
+                (λ z. few (n - 2 - 1) z (at (n - 2) (n - 2 - 1 + 1) (omega arith) g) (at (n - 1) (n - 2 - 1 + 2) (omega arith) e) (at n (n - 2 - 1 + 3) (omega arith) a))
+                refl;
             low = omega arith;
             high = omega (arith, on-three (n - 2) b c);
           }

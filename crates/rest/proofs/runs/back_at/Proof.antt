@@ -16,17 +16,20 @@ back-at-spec =
     let r = c .before in (rw (le-leb 1 _ (r .before .if1 .left), ← r .rest-at .ensures, not-true (r .rest-at .result) (c .if2 .taken)), omega arith))
     (λ c.
     let e = c .before in
-    let r = e .before in
-    ( rw (le-leb 1 _ (r .before .if1 .left), ← r .rest-at .ensures, not-false (r .rest-at .result) (e .if2 .left), lt-leb 2 _ (c .if3 .taken)),
-      omega arith ))
+    let r = e .before in (
+      rw (le-leb 1 _ (r .before .if1 .left), ← r .rest-at .ensures, not-false (r .rest-at .result) (e .if2 .left), lt-leb 2 _ (c .if3 .taken)),
+      omega arith,
+    ))
     (search needs)
     (λ c.
     let g = c .before .before in
-    let r = g .before .before in
-    ( rw (le-leb 1 _ (r .before .if1 .left), ← r .rest-at .ensures, not-false (r .rest-at .result) (g .before .if2 .left), le-leb 2 _ (g .if3 .left), ← c .before .rest-at2 .ensures, c .if4 .taken),
-      omega arith ))
+    let r = g .before .before in (
+      rw (le-leb 1 _ (r .before .if1 .left), ← r .rest-at .ensures, not-false (r .rest-at .result) (g .before .if2 .left), le-leb 2 _ (g .if3 .left), ← c .before .rest-at2 .ensures, c .if4 .taken),
+      omega arith,
+    ))
     (λ c.
     let g = c .before .before in
-    let r = g .before .before in
-    ( rw (le-leb 1 _ (r .before .if1 .left), ← r .rest-at .ensures, not-false (r .rest-at .result) (g .before .if2 .left), le-leb 2 _ (g .if3 .left), ← c .before .rest-at2 .ensures, c .if4 .left),
-      omega arith )))
+    let r = g .before .before in (
+      rw (le-leb 1 _ (r .before .if1 .left), ← r .rest-at .ensures, not-false (r .rest-at .result) (g .before .if2 .left), le-leb 2 _ (g .if3 .left), ← c .before .rest-at2 .ensures, c .if4 .left),
+      omega arith,
+    )))
