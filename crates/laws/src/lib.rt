@@ -1,1 +1,10 @@
-// The lemmas that several crates cite stand in specs/ and proofs/.
+// The lemmas that several crates cite stand in specs/ and proofs/. The one piece of code is a choice without a branch.
+ghost use mathlib.Core.Path.{_≡_};
+ghost use mathlib.Core.Bool.{cond};
+ghost use Prim.Native.Nat.{_+_, _≤_};
+
+pub fn pick(test: bool, x: u64, y: u64) -> u64
+    ensures { λ r. ⌜ (r ≡ cond test x y) × (r ≤ x + y) ⌝ }
+{
+    if test { x } else { y }
+}
