@@ -1,0 +1,3 @@
+pub mod MonthStarts
+pub mod Years
+pub mod Dates
