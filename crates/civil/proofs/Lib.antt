@@ -1,3 +1,4 @@
 pub mod MonthStarts
 pub mod Years
+pub mod Centuries
 pub mod Dates

@@ -6,7 +6,7 @@ use Prim.Native.Nat.{ℕ, zero, suc, _+_, _-_, _*_, _/_, _%_, _≤_, _<_}
 use native.Mathlib.Omega.{arith}
 use native.Mathlib.Decide.{ℕ-discrete}
 use borrow.Author.Tests.{eq-eqb, ne-eqb}
-use Rattle.civil.specs.Calendar.{yearDays, yearsDays, firstYear, julianLeap, gregorianLeap}
+use Rattle.civil.specs.Calendar.{yearDays, yearsDays, firstYear, divisible, julianLeap}
 use Rattle.civil.proofs.MonthStarts.{year-days}
 
 pub next-year :
@@ -26,15 +26,17 @@ years-rise leap a zero p = absurd (omega arith)
 years-rise leap a (suc b) p =
     by-cases (ℕ-discrete a b) (λ q. rw q (omega arith)) (λ q. omega (arith, years-rise leap a b (omega arith)))
 
+-- How many of the numbers below n are multiples of 4: one more after a multiple.
+pub fourth : (n : ℕ) → cond (divisible 4 n) 1 0 + (n + 3) / 4 ≡ (n + 4) / 4
+fourth n =
+    by-cases (ℕ-discrete (n % 4) 0) (λ p. rw (eq-eqb _ _ p) (omega arith)) (λ p. rw (ne-eqb _ _ p) (omega arith))
+
 -- The Julian years from −3760 on: the first of every four is leap.
-julian-day : (k : ℕ) → cond (julianLeap (firstYear + k)) 1 0 + (k + 3) / 4 ≡ (k + 4) / 4
+pub julian-rule : (k : ℕ) → julianLeap (firstYear + k) ≡ divisible 4 k
 unfolding julianLeap
-julian-day k =
-    by-cases (ℕ-discrete ((firstYear + k) % 4) 0)
-    (λ p. rw (eq-eqb _ _ p) (omega arith))
-    (λ p. rw (ne-eqb _ _ p) (omega arith))
+julian-rule k = let e : (firstYear + k) % 4 ≡ k % 4 = omega arith in rw e
 
 pub julian-years : (k : ℕ) → yearsDays julianLeap k ≡ 365 * k + (k + 3) / 4
 unfolding yearsDays
 julian-years zero = refl
-julian-years (suc k) = omega (arith, julian-years k, julian-day k, year-days (julianLeap (firstYear + k)))
+julian-years (suc k) = rw (julian-rule k) (omega (arith, julian-years k, fourth k, year-days (divisible 4 k)))
