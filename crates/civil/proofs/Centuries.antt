@@ -46,7 +46,7 @@ not-not : (t : Bool) → not (not t) ≡ t
 not-not true = refl
 not-not false = refl
 
-and-true : (t : Bool) → t && true ≡ t
+pub and-true : (t : Bool) → t && true ≡ t
 and-true true = refl
 and-true false = refl
 
