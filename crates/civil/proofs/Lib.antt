@@ -6,3 +6,5 @@ pub mod Quarters
 pub mod Dates
 pub mod JulianYears
 pub mod GregorianYears
+pub mod Raising
+pub mod Answers

@@ -44,7 +44,7 @@ fn year_of(day: u64) -> YearDay
     let short = century % 4 != 0;
     let quarters = 4 * (century_quarters % 146097 / 4 + pick(short, 1, 0));
     let years = quarters / 1461;
-    let dropped = short & (years == 0);
+    let dropped = (years == 0) & short;
     YearDay {
         year: 100 * century + years,
         leap: (years % 4 == 0) & !dropped,
