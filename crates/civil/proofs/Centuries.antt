@@ -16,17 +16,18 @@ use Rattle.civil.proofs.Years.{fourth}
 abbrev pub leapAt : ℕ → ℕ → Bool
 leapAt q r = divisible 4 r && not (eqb r 0 && not (divisible 4 q))
 
+pub fourth-of : (q r : ℕ) → (100 * q + r) % 4 ≡ r % 4
+fourth-of q r = let e : 100 * q + r ≡ 4 * (25 * q) + r = omega arith in rw e (mul-add-mod-self-left 4 (25 * q) r)
+
 pub rule : (q r : ℕ) → r < 100 → gregorianLeap (100 * q + r) ≡ leapAt q r
 unfolding gregorianLeap
 rule q r h =
-    let a : (100 * q + r) % 4 ≡ r % 4 =
-    let e : 100 * q + r ≡ 4 * (25 * q) + r = omega arith in rw e (mul-add-mod-self-left 4 (25 * q) r) in
     let b : (100 * q + r) % 100 ≡ r = omega arith in
     let c : (100 * q + r) % 400 ≡ 100 * (q % 4) + r =
     let e : 100 * q + r ≡ 400 * (q / 4) + (100 * (q % 4) + r) = omega arith in
     let f : (100 * (q % 4) + r) % 400 ≡ 100 * (q % 4) + r = omega arith in
     rw e (mul-add-mod-self-left 400 (q / 4) (100 * (q % 4) + r) ∙ f) in
-    rw (a, b, c)
+    rw (fourth-of q r, b, c)
     (by-cases (ℕ-discrete r 0)
     (λ e.
     by-cases (ℕ-discrete (q % 4) 0)

@@ -13,7 +13,7 @@ use Rattle.civil.specs.Steps.{InYear}
 use Rattle.civil.specs.declared.YearDay.{YearDay}
 use Rattle.civil.proofs.MonthStarts.{january, year-days}
 use Rattle.civil.proofs.Years.{fourth}
-use Rattle.civil.proofs.Centuries.{leapAt, rule, begun, and-true, fours, gregorian-years}
+use Rattle.civil.proofs.Centuries.{leapAt, fourth-of, rule, begun, and-true, fours, gregorian-years}
 use Rattle.civil.proofs.Quarters.{place, short}
 use Rattle.civil.proofs.Dates.{Covers}
 
@@ -46,6 +46,19 @@ gregorian-eve s l =
     let f = (s + 3) / 4 in
     let g = (begun s + 3) / 4 in
     omega (arith, gregorian-day s 1 0 l, january (gregorianLeap s))
+
+-- The leap rule by the centuries begun before the year: it begins one itself if they are 100 to a year up to it.
+pub gregorian-rule : (s : ℕ) → divisible 4 s && not (eqb (100 * begun s) s && not (divisible 4 (begun s))) ≡ gregorianLeap s
+gregorian-rule s =
+    let q = s / 100 in
+    let r = s % 100 in
+    let e : 100 * q + r ≡ s = omega arith in
+    let t = rw e at (rule q r (omega arith)) in
+    let f = rw e at (fourth-of q r) in
+    by-cases (ℕ-discrete r 0)
+    (λ p.
+    let b : begun s ≡ q = omega arith in rw (t, f, b, eq-eqb (100 * q) s (omega arith), eq-eqb r 0 p))
+    (λ p. rw (t, f, ne-eqb (100 * begun s) s (λ z. p (omega arith)), ne-eqb r 0 p))
 
 -- Day a of century c is, with the day that a short century drops put back, day z of its year k as if that were a Julian
 -- year; and it is day y of the Gregorian year.
@@ -147,3 +160,22 @@ gregorian-in-year j l u =
       place =
           counted n s y at _ _ (gregorian-day s 1 (y + 1) (years .0)) (january (gregorianLeap s)) ∙ omega arith;
     }
+
+-- A day is dropped only where one was put back.
+bit : (t : Bool) → cond t 1 0 ≤ 1
+bit true = omega arith
+bit false = omega arith
+
+in-first-year : (b : ℕ) → 4 * b / 1461 ≡ 0 → 1 ≤ b → 1 ≤ 4 * b % 1461 / 4
+in-first-year b e l = omega arith
+
+pub kept : (j : ℕ) → cond (dropped (century j) (years j)) 1 0 ≤ 4 * since j % 1461 / 4
+kept j =
+    by-cases (ℕ-discrete (years j) 0)
+    (λ p.
+    by-cases (ℕ-discrete (century j % 4) 0)
+    (λ q. rw (eq-eqb (years j) 0 p, eq-eqb (century j % 4) 0 q) (omega arith))
+    (λ q.
+    let e : since j ≡ quarters j % 146097 / 4 + 1 = rw (ne-eqb (century j % 4) 0 q) in
+    omega (arith, bit (dropped (century j) (years j)), in-first-year (since j) p (omega (arith, e)))))
+    (λ p. rw (ne-eqb (years j) 0 p) (omega arith))

@@ -24,8 +24,11 @@ civilDay cal y m d =
     (cond (outOfRange (dayOf cal (raised y) m d)) (noDay 8)
     (record { refusal = 0; day = dayOf cal (raised y) m d }))))
 
+abbrev pub noDate : CivilDate
+noDate = record { refusal = 4; year = pos 0; month = 0; day = 0 }
+
 -- 4: day number outside the range.
 unfoldable pub civilDate : Calendar → ℕ → CivilDate
 civilDate cal j =
-    cond (outOfRange j) (record { refusal = 4; year = pos 0; month = 0; day = 0 })
+    cond (outOfRange j) noDate
     (record { refusal = 0; year = lowered (dateOf cal j .year); month = dateOf cal j .month; day = dateOf cal j .day })

@@ -9,7 +9,7 @@ use crate::signed::lowered;
 ghost use mathlib.Core.Path.{_≡_};
 ghost use Prim.Native.Nat.{_≤_, _<_};
 ghost use Rattle.civil.specs.Calendar.{yearDays};
-ghost use Rattle.civil.specs.Answers.{noDay};
+ghost use Rattle.civil.specs.Answers.{noDay, noDate};
 ghost use Rattle.civil.specs.Steps.{dayIn, DateIn};
 
 fn no_day(refusal: u64) -> CivilDay
@@ -59,7 +59,9 @@ pub fn date_in(at: YearDay) -> CivilDate
 }
 
 // Refusal 4.
-pub fn no_date() -> CivilDate {
+pub fn no_date() -> CivilDate
+    ensures { λ r. ⌜ r ≡ noDate ⌝ }
+{
     CivilDate {
         refusal: 4,
         year: 0,
