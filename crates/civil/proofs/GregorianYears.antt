@@ -11,7 +11,7 @@ use Rattle.days.specs.Range.{firstDay, lastDay}
 use Rattle.civil.specs.Calendar.{gregorian, gregorianLeap, monthDays, daysBefore, yearDays, yearsDays, firstYear, divisible, daysTo, dayOf}
 use Rattle.civil.specs.Steps.{InYear}
 use Rattle.civil.specs.declared.YearDay.{YearDay}
-use Rattle.civil.proofs.MonthStarts.{january, year-days}
+use Rattle.civil.proofs.MonthStarts.{january, year-days, at-most}
 use Rattle.civil.proofs.Years.{fourth}
 use Rattle.civil.proofs.Centuries.{leapAt, fourth-of, rule, begun, and-true, fours, gregorian-years}
 use Rattle.civil.proofs.Quarters.{place, short}
@@ -97,10 +97,6 @@ module _ (c a k z : ℕ) (h : k < 100) (e : 365 * k + (k + 3) / 4 + z ≡ a + co
 
   placed : Placed
   placed = by-cases (ℕ-discrete k 0) first-of-century later
-
-at-most : (t : Bool) → yearDays t ≤ 366
-at-most true = omega (arith, year-days true)
-at-most false = omega (arith, year-days false)
 
 -- Day n from the raised year 0 on is day y of year s.
 module _ (n s y : ℕ) (e : 365 * s + (s + 3) / 4 + (begun s + 3) / 4 + y ≡ n + begun s) where

@@ -26,6 +26,10 @@ unfolding yearDays daysBefore monthDays
 year-days true = refl
 year-days false = refl
 
+pub at-most : (leap : Bool) → yearDays leap ≤ 366
+at-most true = omega (arith, year-days true)
+at-most false = omega (arith, year-days false)
+
 pub year-whole : (leap : Bool) → yearDays leap ≡ daysBefore leap 13
 unfolding yearDays
 year-whole leap = refl

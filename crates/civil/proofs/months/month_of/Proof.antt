@@ -1,21 +1,20 @@
 use borrow.Author.Needs.{needs}
+use mathlib.Core.Path.{_≡_, _∙_}
+use Prim.Native.Nat.{_+_, _-_}
+use native.Mathlib.Omega.{arith}
+use Rattle.civil.specs.Calendar.{daysBefore}
+use Rattle.civil.specs.Steps.{InMonth}
+use Rattle.civil.proofs.MonthStarts.{at-most}
+use Rattle.civil.proofs.MonthOf.{monthAt, month-right}
 use Rattle.civil.proofs.months.month_of.Statement.{statement}
 use Rattle.civil.proofs.months.month_of.Tie as tie
 
-days-before-requires : tie.Need-days-before-requires
-days-before-requires c κs = ?
+found : (c : tie.After-pick) → let a = c .before .before .args in c .pick .result ≡ monthAt (a .leap) (a .day)
+found c = rw (c .before .days-before .ensures .0) at (c .pick .ensures .0)
 
-days-before-requires-2 : tie.Need-days-before-requires-2
-days-before-requires-2 c κs = ?
-
-sub-t8 : tie.Need-sub-t8
-sub-t8 c = ?
-
-add-t6 : tie.Need-add-t6
-add-t6 c = ?
-
-returns : tie.Need-returns
-returns c = ?
+right : (c : tie.After-pick) → let a = c .before .before .args in
+    InMonth (a .leap) (a .day) (c .pick .result) (a .day - daysBefore (a .leap) (c .pick .result) + 1)
+right c = let s = c .before .before in rw (found c) (month-right (s .args .leap) (s .args .day) (s .pre))
 
 pub month-of-spec : {M : Type 1} → statement M
 month-of-spec =
@@ -23,10 +22,10 @@ month-of-spec =
     (tie.spec
     (search needs)
     (search needs)
-    days-before-requires
+    (λ c κs. omega (arith, at-most (c .args .leap)))
     (search needs)
     (search needs)
-    days-before-requires-2
-    sub-t8
-    add-t6
-    returns)
+    (λ c κs. omega (arith, right c))
+    (λ c. omega (arith, right (c .before), c .days-before2 .ensures .0))
+    (λ c. omega (arith, c .before .before .before .pre, at-most (c .before .before .before .args .leap)))
+    (λ c. rw (c .days-before2 .ensures .0) (right (c .before))))
