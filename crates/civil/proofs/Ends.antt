@@ -5,7 +5,7 @@ use Prim.Native.Nat.{ℕ, _+_, _-_, _*_, _/_, _≤_}
 use native.Mathlib.Omega.{arith}
 use lib.IntN.{pos, negsuc}
 use Rattle.days.specs.Range.{firstDay, lastDay}
-use Rattle.civil.specs.Calendar.{Calendar, julian, gregorian, julianLeap, gregorianLeap, monthDays, daysBefore, firstYear, divisible, dayOf}
+use Rattle.civil.specs.Calendar.{julian, gregorian, julianLeap, gregorianLeap, monthDays, daysBefore, firstYear, divisible, dayOf}
 use Rattle.civil.specs.Date.{Date, dateOf}
 use Rattle.civil.specs.Answers.{civilDate}
 use Rattle.civil.proofs.Years.{fourth}
