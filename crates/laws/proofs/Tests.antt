@@ -33,6 +33,11 @@ beq-true true false e = sym e
 beq-true false true e = e
 beq-true false false e = refl
 
+-- A choice between two numbers is no larger than a bound of both.
+pub cond-le : (b : Bool) (x y n : ℕ) → x ≤ n → y ≤ n → cond b x y ≤ n
+cond-le true x y n p q = p
+cond-le false x y n p q = q
+
 -- One level: a run of numbers, and a table.
 pub at : (a n : ℕ) (p : ℕ → Bool) → every a n p ≡ true → (k : ℕ) → a ≤ k → k < a + n → p k ≡ true
 unfolding every

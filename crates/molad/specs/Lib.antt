@@ -1,0 +1,4 @@
+pub mod Units
+pub mod Years
+pub mod Molad
+pub mod Answers

@@ -1,0 +1,28 @@
+// The months before a year.
+ghost use mathlib.Core.Path.{_≡_};
+ghost use Prim.Native.Nat.{_≤_, _-_};
+ghost use Rattle.molad.specs.Years.{leap, monthsBefore};
+
+pub struct Months {
+    // The months before Tishri of the year.
+    pub months: u64,
+    // Is the year leap?
+    pub leap: bool,
+    // Was the year before it leap? Year 0 counts as leap.
+    pub after_leap: bool,
+}
+
+// A step, for the years 1 to 10,001.
+pub fn months_before(year: u64) -> Months
+    requires { ⌜ (1 ≤ year) × (year ≤ 10001) ⌝ }
+    ensures { λ r. ⌜ (r .months ≡ monthsBefore year) × ((r .leap ≡ leap year) × ((r .«after_leap» ≡ leap (year - 1)) × (r .months ≤ 123700))) ⌝ }
+{
+    let scaled = 235 * year - 234;
+    let months = scaled / 19;
+    let left = scaled % 19;
+    Months {
+        months,
+        leap: 12 <= left,
+        after_leap: left < 7,
+    }
+}

@@ -1,0 +1,7 @@
+pub mod Late
+pub mod Quick
+pub mod Lengths
+pub mod Rise
+pub mod YearOf
+pub mod Answers
+pub mod Spanned

@@ -1,0 +1,43 @@
+-- What `new_year`, `year` and `year_of_day` answer.
+use mathlib.Core.Bool.{cond}
+use Prim.Native.Nat.{ℕ, _/_, _%_}
+use Rattle.laws.specs.Runs.{outside}
+use Rattle.days.specs.Range.{outOfRange}
+use Rattle.days.specs.Weekday.{weekday}
+use Rattle.molad.specs.Units.{partsInHour}
+use Rattle.molad.specs.Years.{monthsIn}
+use Rattle.molad.specs.Molad.{moladDay, moladTime}
+use Rattle.newyear.specs.NewYear.{newYear, yearLength, yearOf}
+use Rattle.newyear.specs.declared.NewYearAnswer.{NewYearAnswer}
+use Rattle.newyear.specs.declared.YearAnswer.{YearAnswer}
+use Rattle.newyear.specs.declared.YearOfDayAnswer.{YearOfDayAnswer}
+
+abbrev pub noNewYear : ℕ → NewYearAnswer
+noNewYear n = record { refusal = n; day = 0; weekday = 0; «molad_day» = 0; «molad_hour» = 0; «molad_part» = 0 }
+
+-- New Year from its day, and the molad's day and time.
+abbrev pub newYearOn : ℕ → ℕ → ℕ → NewYearAnswer
+newYearOn j moladJ t =
+    record {
+      refusal = 0;
+      day = j;
+      weekday = weekday j;
+      «molad_day» = moladJ;
+      «molad_hour» = t / partsInHour;
+      «molad_part» = t % partsInHour;
+    }
+
+-- Refusal 1: the year lies outside 1..10,000.
+unfoldable pub newYearAnswer : ℕ → NewYearAnswer
+newYearAnswer h = cond (outside 1 10000 h) (noNewYear 1) (newYearOn (newYear h) (moladDay h 1) (moladTime h 1))
+
+-- Refusal 1: the year lies outside 1..9999.
+unfoldable pub yearAnswer : ℕ → YearAnswer
+yearAnswer h =
+    cond (outside 1 9999 h)
+    (record { refusal = 1; «new_year» = 0; weekday = 0; length = 0; months = 0 })
+    (record { refusal = 0; «new_year» = newYear h; weekday = weekday (newYear h); length = yearLength h; months = monthsIn h })
+
+-- Refusal 4: the day number lies outside the range.
+unfoldable pub yearOfDayAnswer : ℕ → YearOfDayAnswer
+yearOfDayAnswer j = cond (outOfRange j) (record { refusal = 4; year = 0 }) (record { refusal = 0; year = yearOf j })

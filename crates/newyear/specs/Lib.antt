@@ -1,0 +1,5 @@
+pub mod Delays
+pub mod NewYear
+pub mod Kinds
+pub mod Answers
+pub mod Spans

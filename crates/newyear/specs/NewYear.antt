@@ -1,0 +1,19 @@
+-- New Year, the year's length, and the year that holds a day.
+use Prim.Native.Nat.{ℕ, _+_, _-_}
+use Rattle.laws.specs.Begun.{begun}
+use Rattle.days.specs.Weekday.{weekday}
+use Rattle.molad.specs.Years.{leap}
+use Rattle.molad.specs.Molad.{moladDay, moladTime}
+use Rattle.newyear.specs.Delays.{delay}
+
+-- The molad of Tishri, code 1.
+unfoldable pub newYear : ℕ → ℕ
+newYear h = moladDay h 1 + delay (weekday (moladDay h 1)) (moladTime h 1) (leap h) (leap (h - 1))
+
+-- A year's length is the distance to the next New Year.
+unfoldable pub yearLength : ℕ → ℕ
+yearLength h = newYear (h + 1) - newYear h
+
+-- The year that holds day j is the last of the years 1 to 9999 that has begun.
+unfoldable pub yearOf : ℕ → ℕ
+yearOf j = begun newYear 9999 j

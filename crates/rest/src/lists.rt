@@ -1,0 +1,1 @@
+// The lists of a year, written into lent numbers.
