@@ -1,3 +1,4 @@
+pub mod Growing
 pub mod Places
 pub mod RestOfYear
 pub mod Rows
