@@ -1,3 +1,4 @@
+pub mod Answered
 pub mod Growing
 pub mod Places
 pub mod RestOfYear
