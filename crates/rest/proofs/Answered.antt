@@ -42,7 +42,7 @@ module _ (table : List Feast) (ok : passes table ≡ true) (h : ℕ) (l : 1 ≤ 
   abbrev feasts : List ℕ
   feasts = places table len
 
-  next-year : newYear h + len ≡ newYear (h + 1)
+  pub next-year : newYear h + len ≡ newYear (h + 1)
   unfolding yearLength
   next-year = omega (arith, rises h l (omega arith))
 
@@ -89,7 +89,7 @@ module _ (table : List Feast) (ok : passes table ≡ true) (h : ℕ) (l : 1 ≤ 
         seek-is rest (daysFrom (newYear h + x)) (newYear h + x) (newYear h + n) none-before (rw q g) (omega arith) (omega arith)))
 
   -- Looking back and on, by day number and by place in the year.
-  at : (k y : ℕ) → newYear h + y ≡ k → y < len → rest k ≡ restAt feasts w y
+  pub at : (k y : ℕ) → newYear h + y ≡ k → y < len → rest k ≡ restAt feasts w y
   at k y e p = rw e at (rest-placed table ok h l u y p)
 
   back-same : (k : ℕ) → k < len → back rest (newYear h + k) ≡ backAt feasts w k
@@ -119,7 +119,7 @@ module _ (table : List Feast) (ok : passes table ≡ true) (h : ℕ) (l : 1 ≤ 
       cond-le (leb 1 k && restAt feasts w (k - 1)) _ 0 k
       (cond-le (leb 2 k && restAt feasts w (k - 2)) 2 1 k (omega arith) (omega arith)) (omega arith)))
 
-  on-same : (k : ℕ) → k < len → rest (newYear h + k) ≡ true → on rest (newYear h + k) ≡ runAt feasts w k
+  pub on-same : (k : ℕ) → k < len → rest (newYear h + k) ≡ true → on rest (newYear h + k) ≡ runAt feasts w k
   unfolding on runAt
   on-same k p e =
       let z = last-day-works table ok h l u in

@@ -17,6 +17,11 @@ unfoldable pub places : List Feast → ℕ → List ℕ
 places [] len = []
 places (f ∷ table) len = place len f ∷ places table len
 
+-- The day numbers of places in the year that begins on day j.
+unfoldable pub daysAt : ℕ → List ℕ → List ℕ
+daysAt j [] = []
+daysAt j (x ∷ feasts) = (j + x) ∷ daysAt j feasts
+
 -- Day x is a Saturday, or one of the places.
 unfoldable pub restAt : List ℕ → ℕ → ℕ → Bool
 restAt feasts w x = eqb ((w + x) % 7) 0 || elem x feasts
