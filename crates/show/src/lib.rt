@@ -11,6 +11,16 @@ pub fn number(n: u64) {
     io::print_decimal(STDOUT_FILENO, n);
 }
 
+// A number with its sign, after one blank. The least i64 has no positive twin: one is added first, and again at the end.
+pub fn signed(n: i64) {
+    if 0 <= n {
+        number(n as u64);
+    } else {
+        io::write_all(STDOUT_FILENO, b" -");
+        io::print_decimal(STDOUT_FILENO, ((0 - (n + 1)) as u64) + 1);
+    }
+}
+
 pub fn end() {
     io::write_all(STDOUT_FILENO, b"\n");
 }

@@ -1,0 +1,65 @@
+-- The answers: what the steps that both calendars share come to, and that each public contract leaves one result.
+use mathlib.Core.Path.{_≡_, refl}
+use mathlib.Core.Bool.{Bool, true, false, cond}
+use Prim.Native.Nat.{ℕ, _+_, _≤_}
+use native.Mathlib.Omega.{arith}
+use borrow.Author.Tests.{ne-eqb}
+use lib.IntN.{ℤ}
+use Rattle.laws.proofs.One.{one-result}
+use Rattle.laws.proofs.Tests.{within}
+use Rattle.days.specs.Range.{firstDay, lastDay, outOfRange}
+use Rattle.civil.specs.Signed.{civil, raised, raisedIn, lowered}
+use Rattle.civil.specs.Calendar.{Calendar, julian, gregorian, daysBefore, monthDays, firstYear, daysTo, dayOf}
+use Rattle.civil.specs.Date.{Date, dateOf}
+use Rattle.civil.specs.Steps.{IsYear, dayIn, InYear, InMonth, DateIn}
+use Rattle.civil.specs.Answers.{civilDay, civilDate}
+use Rattle.civil.specs.declared.CivilDay.{CivilDay}
+use Rattle.civil.specs.declared.CivilDate.{CivilDate}
+use Rattle.civil.specs.declared.Year.{Year}
+use Rattle.civil.specs.declared.YearDay.{YearDay}
+use Rattle.civil.proofs.MonthStarts.{january}
+use Rattle.civil.proofs.Dates.{Covers, Good, day, only-date}
+use Rattle.civil.proofs.Raising.{raised-is}
+
+module _ (cal : Calendar) (c : Covers cal) where
+  -- A date's day, from its year's eve.
+  from-eve : (s m d : ℕ) → dayOf cal s m d ≡ dayOf cal s 1 0 + daysBefore (cal .leap s) m + d
+  unfolding dayOf daysTo
+  from-eve s m d = omega (arith, c .eve, january (cal .leap s))
+
+  pub day-answer : (y : ℤ) (m d : ℕ) (x : Year) → IsYear cal (raisedIn y) x → dayIn x m d ≡ civilDay cal y m d
+  unfolding dayIn civilDay raisedIn
+  day-answer y m d x is = go (civil y) refl
+    where
+      go : (t : Bool) → civil y ≡ t → dayIn x m d ≡ civilDay cal y m d
+      go true e =
+          let k = raised-is y e in
+          let f = rw e at is in
+          let n = f .number in
+          rw (e, ne-eqb (x .number) 0 (λ z. omega arith), f .rule, f .eve (omega arith), ← from-eve (raised y) m d)
+      go false e = let f = rw e at is in rw (e, f .number)
+
+  pub date-answer :
+      (j : ℕ) → outOfRange j ≡ false → (x : YearDay) → InYear cal j x → (r : CivilDate) → DateIn x r → r ≡ civilDate cal j
+  unfolding civilDate
+  date-answer j o x at r date =
+      let z : Date = record { year = x .year; month = r .month; day = r .day } in
+      let leap = at .rule in
+      let month = rw leap at (date .month) in
+      let good : Good cal z = omega arith in
+      let counted : day cal z ≡ j = omega (arith, from-eve (x .year) (r .month) (r .day), from-eve (x .year) 1 (x .day + 1), january (cal .leap (x .year))) in
+      let same = only-date cal c j (within firstDay lastDay j o .0) z good counted in
+      rw (o, ← same) (λ i. record { refusal = date .done i; year = date .year i; month = r .month; day = r .day })
+
+-- Any two results that a public contract allows are equal.
+pub julian-day-one : (y : ℤ) (m d : ℕ) (r s : CivilDay) → r ≡ civilDay julian y m d → s ≡ civilDay julian y m d → r ≡ s
+julian-day-one y m d = one-result (civilDay julian y m d)
+
+pub gregorian-day-one : (y : ℤ) (m d : ℕ) (r s : CivilDay) → r ≡ civilDay gregorian y m d → s ≡ civilDay gregorian y m d → r ≡ s
+gregorian-day-one y m d = one-result (civilDay gregorian y m d)
+
+pub julian-date-one : (j : ℕ) (r s : CivilDate) → r ≡ civilDate julian j → s ≡ civilDate julian j → r ≡ s
+julian-date-one j = one-result (civilDate julian j)
+
+pub gregorian-date-one : (j : ℕ) (r s : CivilDate) → r ≡ civilDate gregorian j → s ≡ civilDate gregorian j → r ≡ s
+gregorian-date-one j = one-result (civilDate gregorian j)

@@ -1,0 +1,71 @@
+-- The first and the last day of the range are document 01's dates; and the days of August, as Rhodes' route counts them.
+use mathlib.Core.Path.{_≡_, refl, sym}
+use mathlib.Core.Bool.{Bool, true, false, cond}
+use Prim.Native.Nat.{ℕ, _+_, _-_, _*_, _/_, _≤_}
+use native.Mathlib.Omega.{arith}
+use lib.IntN.{pos, negsuc}
+use Rattle.days.specs.Range.{firstDay, lastDay}
+use Rattle.civil.specs.Calendar.{Calendar, julian, gregorian, julianLeap, gregorianLeap, monthDays, daysBefore, firstYear, divisible, dayOf}
+use Rattle.civil.specs.Date.{Date, dateOf}
+use Rattle.civil.specs.Answers.{civilDate}
+use Rattle.civil.proofs.Years.{fourth}
+use Rattle.civil.proofs.Dates.{lastYear, only-date}
+use Rattle.civil.proofs.JulianYears.{julian-covers, julian-day}
+use Rattle.civil.proofs.GregorianYears.{gregorian-covers, gregorian-day}
+
+abbrev date : ℕ → ℕ → ℕ → Date
+date s m d = record { year = s; month = m; day = d }
+
+pub julian-first-date : dateOf julian firstDay ≡ date firstYear 10 7
+unfolding monthDays daysBefore julianLeap
+julian-first-date =
+    sym (only-date julian julian-covers firstDay (omega arith) (date firstYear 10 7) (omega arith) (julian-day 0 10 7))
+
+pub julian-last-date : dateOf julian lastDay ≡ date lastYear 8 11
+unfolding monthDays daysBefore julianLeap
+julian-last-date =
+    sym (only-date julian julian-covers lastDay (omega arith) (date lastYear 8 11) (omega arith) (julian-day 9999 8 11))
+
+pub gregorian-first-date : dateOf gregorian firstDay ≡ date firstYear 9 7
+unfolding monthDays daysBefore gregorianLeap
+gregorian-first-date =
+    sym
+    (only-date gregorian gregorian-covers firstDay (omega arith) (date firstYear 9 7) (omega arith)
+    (omega (arith, gregorian-day firstYear 9 7 (omega arith))))
+
+pub gregorian-last-date : dateOf gregorian lastDay ≡ date lastYear 9 25
+unfolding monthDays daysBefore gregorianLeap
+gregorian-last-date =
+    sym
+    (only-date gregorian gregorian-covers lastDay (omega arith) (date lastYear 9 25) (omega arith)
+    (omega (arith, gregorian-day lastYear 9 25 (omega arith))))
+
+-- The same with signed years, as they are answered: −3760 is `negsuc 3759`.
+pub julian-first-answer : civilDate julian firstDay ≡ record { refusal = 0; year = negsuc 3759; month = 10; day = 7 }
+unfolding civilDate
+julian-first-answer = rw julian-first-date
+
+pub julian-last-answer : civilDate julian lastDay ≡ record { refusal = 0; year = pos 6239; month = 8; day = 11 }
+unfolding civilDate
+julian-last-answer = rw julian-last-date
+
+pub gregorian-first-answer : civilDate gregorian firstDay ≡ record { refusal = 0; year = negsuc 3759; month = 9; day = 7 }
+unfolding civilDate
+gregorian-first-answer = rw gregorian-first-date
+
+pub gregorian-last-answer : civilDate gregorian lastDay ≡ record { refusal = 0; year = pos 6239; month = 9; day = 25 }
+unfolding civilDate
+gregorian-last-answer = rw gregorian-last-date
+
+-- Day d of August, counted on past 31, of the Julian year h − 3761.
+august-start : (leap : Bool) → daysBefore leap 8 ≡ 212 + cond leap 1 0
+unfolding daysBefore monthDays
+august-start true = refl
+august-start false = refl
+
+pub august : (h d : ℕ) → 1 ≤ h → dayOf julian (h + 239) 8 d ≡ 347930 + 365 * (h - 1) + (h - 1) / 4 + d
+august h d l =
+    let k = h - 1 in
+    let e : firstYear + k ≡ h + 239 = omega arith in
+    let t = rw e at (julian-day k 8 d) in
+    omega (arith, august-start (divisible 4 k), fourth k)

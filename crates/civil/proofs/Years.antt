@@ -1,0 +1,42 @@
+-- Years one after another: their days, added year by year.
+use mathlib.Core.Path.{_≡_, refl, ap}
+use mathlib.Core.Bool.{Bool, true, false, cond}
+use mathlib.Core.Logic.{by-cases}
+use Prim.Native.Nat.{ℕ, zero, suc, _+_, _-_, _*_, _/_, _%_, _≤_, _<_}
+use native.Mathlib.Omega.{arith}
+use native.Mathlib.Decide.{ℕ-discrete}
+use borrow.Author.Tests.{eq-eqb, ne-eqb}
+use Rattle.civil.specs.Calendar.{yearDays, yearsDays, firstYear, divisible, julianLeap}
+use Rattle.civil.proofs.MonthStarts.{year-days}
+
+pub next-year :
+    (leap : ℕ → Bool) (s : ℕ) → firstYear ≤ s →
+    yearsDays leap (s + 1 - firstYear) ≡ yearsDays leap (s - firstYear) + yearDays (leap s)
+unfolding yearsDays
+next-year leap s l =
+    let e : s + 1 - firstYear ≡ suc (s - firstYear) = omega arith in
+    let f : firstYear + (s - firstYear) ≡ s = omega arith in
+    rw (e, f)
+
+-- A year ends before a later one begins.
+pub years-rise :
+    (leap : ℕ → Bool) (a b : ℕ) → a < b → yearsDays leap a + yearDays (leap (firstYear + a)) ≤ yearsDays leap b
+unfolding yearsDays
+years-rise leap a zero p = absurd (omega arith)
+years-rise leap a (suc b) p =
+    by-cases (ℕ-discrete a b) (λ q. rw q (omega arith)) (λ q. omega (arith, years-rise leap a b (omega arith)))
+
+-- How many of the numbers below n are multiples of 4: one more after a multiple.
+pub fourth : (n : ℕ) → cond (divisible 4 n) 1 0 + (n + 3) / 4 ≡ (n + 4) / 4
+fourth n =
+    by-cases (ℕ-discrete (n % 4) 0) (λ p. rw (eq-eqb _ _ p) (omega arith)) (λ p. rw (ne-eqb _ _ p) (omega arith))
+
+-- The Julian years from −3760 on: the first of every four is leap.
+pub julian-rule : (k : ℕ) → julianLeap (firstYear + k) ≡ divisible 4 k
+unfolding julianLeap
+julian-rule k = let e : (firstYear + k) % 4 ≡ k % 4 = omega arith in rw e
+
+pub julian-years : (k : ℕ) → yearsDays julianLeap k ≡ 365 * k + (k + 3) / 4
+unfolding yearsDays
+julian-years zero = refl
+julian-years (suc k) = rw (julian-rule k) (omega (arith, julian-years k, fourth k, year-days (divisible 4 k)))

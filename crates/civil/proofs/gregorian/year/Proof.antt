@@ -1,0 +1,24 @@
+use borrow.Author.Needs.{needs}
+use mathlib.Core.Path.{refl, sym}
+use native.Mathlib.Omega.{arith}
+use Rattle.civil.proofs.GregorianYears.{gregorian-rule, gregorian-eve}
+use Rattle.civil.proofs.gregorian.year.Statement.{statement}
+use Rattle.civil.proofs.gregorian.year.Tie as tie
+
+pub year-spec : {M : Type 1} → statement M
+year-spec =
+    tie.close
+    (tie.spec
+    (search needs)
+    (search needs)
+    (search needs)
+    (search needs)
+    (search needs)
+    (search needs)
+    (search needs)
+    (search needs)
+    (search needs)
+    (search needs)
+    (λ c.
+    let s = c .args .number in
+    record { number = refl; rule = gregorian-rule s; eve = λ l. sym (gregorian-eve s l); small = omega arith }))

@@ -1,0 +1,30 @@
+use borrow.Author.Needs.{needs}
+use mathlib.Core.Path.{_∙_, sym}
+use Rattle.laws.proofs.Tests.{within}
+use Rattle.days.specs.Range.{firstDay, lastDay}
+use Rattle.civil.specs.Calendar.{julian}
+use Rattle.civil.specs.Answers.{civilDate}
+use Rattle.civil.proofs.JulianYears.{julian-covers}
+use Rattle.civil.proofs.Answers.{date-answer}
+use Rattle.civil.proofs.julian.day_to_julian.Statement.{statement}
+use Rattle.civil.proofs.julian.day_to_julian.Tie as tie
+
+pub day-to-julian-spec : {M : Type 1} → statement M
+unfolding civilDate
+day-to-julian-spec =
+    tie.close
+    (tie.spec
+    (search needs)
+    (search needs)
+    (λ c.
+    let t = c .before in
+    rw (c .no-date .ensures, ← t .before .out-of-range .ensures, t .if1 .taken))
+    (λ c κs.
+    let b = c .before in
+    within firstDay lastDay (b .before .args .day) (sym (b .out-of-range .ensures) ∙ c .if1 .left))
+    (search needs)
+    (λ c.
+    let y = c .before in
+    let t = y .before in
+    let b = t .before in
+    date-answer julian julian-covers (b .before .args .day) (sym (b .out-of-range .ensures) ∙ t .if1 .left) (y .year-of .result) (y .year-of .ensures) (c .date-in .result) (c .date-in .ensures)))

@@ -1,0 +1,5 @@
+pub mod Signed
+pub mod Calendar
+pub mod Date
+pub mod Steps
+pub mod Answers
