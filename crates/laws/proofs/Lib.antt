@@ -1,3 +1,4 @@
-pub mod Tests
+pub mod Counted
 pub mod Cycle
 pub mod One
+pub mod Tests

@@ -12,12 +12,17 @@ use Rattle.laws.proofs.Tests.{at, of, within, all, Each, facts, beq-true}
 use Rattle.days.specs.Weekday.{weekday}
 use Rattle.molad.specs.Years.{leap}
 use Rattle.newyear.specs.NewYear.{newYear, yearLength}
-use Rattle.newyear.specs.Kinds.{lengths, kinds, kindOf}
+use Rattle.newyear.specs.Kinds.{lengths, IsLength, kinds, kindOf}
 use Rattle.newyear.proofs.Quick.{quick, newYear-quick}
 
 six-bounds : eachOf lengths (λ n. not (outside 353 385 n)) ≡ true
 unfolding eachOf
 six-bounds = refl
+
+is-length : (n : ℕ) → elem n lengths ≡ true → IsLength n
+is-length n e =
+    let w = within 353 385 n (not-true _ (of lengths (λ n. not (outside 353 385 n)) six-bounds n e)) in
+    record { among = e; short = w .0; long = w .1 }
 
 -- What the test computes of a year.
 tests : ℕ → List Bool
@@ -41,9 +46,9 @@ module _ (h : ℕ) (l : 1 ≤ h) (u : h ≤ 10000) where
   rises = rw (newYear-quick h l, newYear-quick (h + 1) (omega arith)) (ltb-true _ _ (passed .0))
 
   -- A year's length is one of the six.
-  pub length-in : elem (yearLength h) lengths ≡ true
+  pub length-in : IsLength (yearLength h)
   unfolding tests yearLength
-  length-in = rw (newYear-quick h l, newYear-quick (h + 1) (omega arith)) (passed .1 .0)
+  length-in = is-length _ (rw (newYear-quick h l, newYear-quick (h + 1) (omega arith)) (passed .1 .0))
 
   -- It is 383 or more exactly in leap years.
   pub length-leap : leb 383 (yearLength h) ≡ leap h
@@ -59,7 +64,3 @@ module _ (h : ℕ) (l : 1 ≤ h) (u : h ≤ 10000) where
   pub never-on : elem (weekday (newYear h)) (1 ∷ 4 ∷ 6 ∷ []) ≡ false
   unfolding tests
   never-on = rw (newYear-quick h l) (not-true _ (passed .1 .1 .1 .1 .0))
-
-  -- A year has 353 to 385 days.
-  pub length-bounds : (353 ≤ yearLength h) × (yearLength h ≤ 385)
-  length-bounds = within 353 385 (yearLength h) (not-true _ (of lengths (λ n. not (outside 353 385 n)) six-bounds (yearLength h) length-in))

@@ -4,3 +4,4 @@ pub mod Lengths
 pub mod Rise
 pub mod YearOf
 pub mod Answers
+pub mod Spanned

@@ -1,17 +1,18 @@
 -- Each day in range lies in exactly one year.
-use mathlib.Core.Path.{_≡_, refl, sym, _∙_}
+use mathlib.Core.Path.{_≡_, refl}
 use mathlib.Core.Bool.{Bool, true, false, cond}
 use mathlib.Core.List.{List, [], _∷_}
 use mathlib.Core.Logic.{by-cases}
-use Prim.Native.Nat.{ℕ, zero, suc, _+_, _*_, _-_, _/_, _≤_, _<_}
+use Prim.Native.Nat.{ℕ, _+_, _*_, _-_, _/_, _≤_, _<_}
 use native.Mathlib.Omega.{arith}
-use native.Mathlib.Decide.{decLe, decLt, ℕ-discrete}
+use native.Mathlib.Decide.{decLt, ℕ-discrete}
 use lib.Dec.{leb, ltb}
-use borrow.Author.Tests.{leb-true, le-leb, lt-leb, ltb-true, ltb-false}
+use borrow.Author.Tests.{leb-true, ltb-true, ltb-false}
 use Rattle.laws.specs.Runs.{every}
+use Rattle.laws.proofs.Counted.{begun-is}
 use Rattle.laws.proofs.Tests.{at, all, facts}
 use Rattle.days.specs.Range.{firstDay, lastDay}
-use Rattle.newyear.specs.NewYear.{newYear, begun, yearOf}
+use Rattle.newyear.specs.NewYear.{newYear, yearOf}
 use Rattle.newyear.proofs.Quick.{quick, newYear-quick}
 use Rattle.newyear.proofs.Rise.{rise-le}
 
@@ -45,28 +46,12 @@ near h l u =
     let t = facts (close h) (at 1 10001 (λ h. all (close h)) close-all h l (omega arith)) in
     rw (newYear-quick h l) (omega (arith, leb-true))
 
--- The years begun among the first k, where day j lies in year h: k of them up to h, and h from then on.
-begun-all : (j h k : ℕ) → InYear j h → k ≤ h → begun k j ≡ k
-unfolding begun
-begun-all j h zero i p = refl
-begun-all j h (suc k) i p =
-    let e = le-leb (newYear (suc k)) j (omega (arith, rise-le (suc k) h (omega arith) p (omega arith))) in
-    rw (e, begun-all j h k i (omega arith)) (omega arith)
-
-begun-some : (j h k : ℕ) → InYear j h → h ≤ k → k ≤ 9999 → begun k j ≡ h
-unfolding begun
-begun-some j h zero i p u = absurd (omega arith)
-begun-some j h (suc k) i p u =
-    by-cases (ℕ-discrete h (suc k))
-    (λ q. begun-all j h (suc k) i (omega arith) ∙ sym q)
-    (λ q.
-    let e = lt-leb (newYear (suc k)) j (omega (arith, rise-le (h + 1) (suc k) (omega arith) (omega arith) (omega arith))) in
-    rw (e, begun-some j h k i (omega arith) (omega arith)) (omega arith))
-
 -- The year that holds a day is the only one that it lies in.
 pub year-is : (j h : ℕ) → InYear j h → yearOf j ≡ h
 unfolding yearOf
-year-is j h i = begun-some j h 9999 i (i .high) (omega arith)
+year-is j h i =
+    begun-is newYear 9999 j h (λ a b l p u. rise-le a b l p (omega arith))
+    (record { some = i .low; within = i .high; from = i .from; next = λ _. i .before })
 
 -- The guess in years of 365¼ days is the year before, or the year itself.
 module _ (j : ℕ) (lo : firstDay ≤ j) (hi : j ≤ lastDay) where

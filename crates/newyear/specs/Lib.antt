@@ -2,3 +2,4 @@ pub mod Delays
 pub mod NewYear
 pub mod Kinds
 pub mod Answers
+pub mod Spans

@@ -3,15 +3,16 @@
 // New Year is the day of the molad of Tishri, or one or two days later by the four delays. A year's length is the
 // distance to the next New Year: 353, 354 or 355 days in a common year, 383, 384 or 385 in a leap year.
 mod delays;
-mod holding;
+mod span;
 mod tishri;
 
 ghost use mathlib.Core.Path.{_≡_};
 ghost use Rattle.newyear.specs.Answers.{newYearAnswer, yearAnswer, yearOfDayAnswer};
 pub use delays::delay;
-pub use holding::Held;
-pub use holding::year_holding;
-pub use holding::year_of;
+pub use span::Span;
+pub use span::year_holding;
+pub use span::year_of;
+pub use span::year_span;
 pub use tishri::Tishri;
 pub use tishri::begins;
 
@@ -78,14 +79,13 @@ pub fn year(year: u64) -> YearAnswer
             months: 0,
         };
     }
-    let first = begins(year);
-    let next = begins(year + 1);
+    let span = year_span(year);
     YearAnswer {
         refusal: 0,
-        new_year: first.new_year,
-        weekday: days::weekday_of(first.new_year),
-        length: next.new_year - first.new_year,
-        months: laws::pick(first.leap, 13, 12),
+        new_year: span.new_year,
+        weekday: days::weekday_of(span.new_year),
+        length: span.length,
+        months: laws::pick(383 <= span.length, 13, 12),
     }
 }
 

@@ -4,8 +4,8 @@ use lib.Dec.{ltb}
 use native.Mathlib.Omega.{arith}
 use Rattle.newyear.specs.NewYear.{yearOf}
 use Rattle.newyear.proofs.YearOf.{corrected, held}
-use Rattle.newyear.proofs.holding.year_of.Statement.{statement}
-use Rattle.newyear.proofs.holding.year_of.Tie as tie
+use Rattle.newyear.proofs.span.year_of.Statement.{statement}
+use Rattle.newyear.proofs.span.year_of.Tie as tie
 
 returns : tie.Need-returns
 returns c =

@@ -2,14 +2,14 @@
 use borrow.Author.Needs.{needs}
 use mathlib.Core.Path.{_≡_}
 use lib.Dec.{ltb}
-use Prim.Native.Nat.{ℕ, _+_, _≤_}
+use Prim.Native.Nat.{ℕ, _+_}
 use native.Mathlib.Omega.{arith}
-use Rattle.days.specs.Range.{firstDay, lastDay}
-use Rattle.newyear.specs.NewYear.{newYear, yearOf, yearLength}
-use Rattle.newyear.proofs.Lengths.{rises, length-bounds}
+use Rattle.newyear.specs.NewYear.{newYear, yearOf}
+use Rattle.newyear.proofs.Lengths.{rises}
+use Rattle.newyear.proofs.Spanned.{spans}
 use Rattle.newyear.proofs.YearOf.{Corrected, corrected, guess, held}
-use Rattle.newyear.proofs.holding.year_holding.Statement.{statement}
-use Rattle.newyear.proofs.holding.year_holding.Tie as tie
+use Rattle.newyear.proofs.span.year_holding.Statement.{statement}
+use Rattle.newyear.proofs.span.year_holding.Tie as tie
 
 -- The correction, as the code's first New Year tells it.
 told :
@@ -45,23 +45,12 @@ both c =
       to = rw (k .ends, ← t, ← q, ← o) (c .pick4 .ensures .0);
     }
 
--- What holds of them.
-sized : (j : ℕ) → firstDay ≤ j → j ≤ lastDay → (newYear (yearOf j) ≤ newYear (yearOf j + 1)) × (yearLength (yearOf j) ≤ 385)
-sized j l u = let i = held j l u in (omega (arith, rises (yearOf j) (i .low) (omega arith)), length-bounds (yearOf j) (i .low) (omega arith) .1)
-
-sub-t10 : tie.Need-sub-t10
-sub-t10 c =
-    let b = both c in
-    let s = sized (c .before .before .before .before .before .before .before .args .day) (omega arith) (omega arith) in omega arith
-
 returns : tie.Need-returns
-unfolding yearLength
 returns c =
     let b = both c in
     let j = c .before .before .before .before .before .before .before .args .day in
-    let s = sized j (omega arith) (omega arith) in
     let i = held j (omega arith) (omega arith) in
-    ((b .held-in, (b .from, rw (b .from, b .to))), omega arith)
+    spans (yearOf j) _ (i .low) (i .high) (b .held-in) (b .from) (rw (b .from, b .to))
 
 pub year-holding-spec : {M : Type 1} → statement M
 year-holding-spec =
@@ -78,5 +67,8 @@ year-holding-spec =
     (search needs)
     (search needs)
     (search needs)
-    sub-t10
+    (λ c.
+    let b = both c in
+    let j = c .before .before .before .before .before .before .before .args .day in
+    let i = held j (omega arith) (omega arith) in omega (arith, rises (yearOf j) (i .low) (omega arith)))
     returns)

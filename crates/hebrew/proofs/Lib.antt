@@ -1,0 +1,4 @@
+pub mod Answers
+pub mod Dates
+pub mod Placed
+pub mod Spanned

@@ -1,0 +1,39 @@
+-- Hebrew dates and day numbers.
+use mathlib.Core.Path.{_≡_}
+use mathlib.Core.Bool.{false}
+use Prim.Native.Nat.{ℕ, _+_, _-_, _≤_}
+use Rattle.laws.specs.Begun.{begun}
+use Rattle.molad.specs.Years.{leap}
+use Rattle.molad.specs.Molad.{noMonth}
+use Rattle.newyear.specs.NewYear.{newYear, yearLength, yearOf}
+use Rattle.hebrew.specs.Months.{monthLength, daysBefore}
+
+pub record Date : Type 0 where
+  pub year : ℕ
+  pub month : ℕ
+  pub day : ℕ
+
+-- A date is good when its year is 1..9999, its code 1..13 with 6 only in leap years, its day 1..the month's length.
+pub record Good (x : Date) : Type 0 where
+  pub year-low : 1 ≤ x .year
+  pub year-high : x .year ≤ 9999
+  pub a-month : noMonth (leap (x .year)) (x .month) ≡ false
+  pub day-low : 1 ≤ x .day
+  pub day-high : x .day ≤ monthLength (yearLength (x .year)) (x .month)
+
+-- The day number of a date: New Year plus the days of the months before it plus day − 1.
+unfoldable pub dayNumber : Date → ℕ
+dayNumber x = newYear (x .year) + daysBefore (yearLength (x .year)) (x .month) + (x .day - 1)
+
+-- The month that holds day x of a year, counted from 0, is the last of the codes 1 to 13 that has begun. (In a common
+-- year code 6 begins with code 7 and so is never the last.)
+unfoldable pub monthOf : ℕ → ℕ → ℕ
+monthOf len x = begun (daysBefore len) 13 x
+
+-- The date of day j: the year that holds it, the month that holds what is left, and the day of that month.
+unfoldable pub dateOf : ℕ → Date
+dateOf j =
+    let h = yearOf j in
+    let x = j - newYear h in
+    let code = monthOf (yearLength h) x in
+    record { year = h; month = code; day = x - daysBefore (yearLength h) code + 1 }
