@@ -1,18 +1,9 @@
 // All 10,000 New Years, all 9,999 lengths, and the year of every New Year and of the day before it, each as one number.
 ghost use Prim.Native.Nat.{_<_};
 use show::end;
+use show::mixed;
 use show::number;
 use show::text;
-
-const PRIME: u64 = 1_000_000_007;
-
-// The numbers so far as figures to the base 31, and one more.
-fn mixed(sum: u64, next: u64) -> u64
-    requires { ⌜ sum < 1000000007 ⌝ }
-    ensures { λ r. ⌜ r < 1000000007 ⌝ }
-{
-    (sum * 31 + next % PRIME) % PRIME
-}
 
 // 0 New Year, 1 the length, 2 the molad's day, 3 its hour, 4 its part, 5 the months, 6 the year that New Year's day is
 // in, 7 that of the day before.

@@ -29,7 +29,7 @@ pub fn late_by(place: u64, weekday: u64, part: u64) -> u64
     let tuesday = laws::pick((weekday == 3) & (6 < place) & (9924 <= part), 2, 0);
     let monday = laws::pick((weekday == 2) & (11 < place) & (16789 <= part), 1, tuesday);
     laws::pick(
-        (weekday == 1) | ((weekday == 4) | ((weekday == 6) | false)),
+        (weekday == 1) | ((weekday == 4) | (weekday == 6)),
         1,
         monday,
     )
