@@ -1,6 +1,6 @@
 -- The delays of the two routes agree, for every weekday and every time of the day.
 use mathlib.Core.Path.{_≡_, refl, ap}
-use mathlib.Core.Bool.{Bool, true, false, not, cond, _&&_, and-true, and-false}
+use mathlib.Core.Bool.{Bool, false, not, cond, _&&_, and-true, and-false}
 use mathlib.Core.List.{[], _∷_}
 use mathlib.Core.Logic.{by-cases}
 use Prim.Native.Nat.{ℕ, zero, suc, _+_, _-_, _%_, _≤_, _<_}

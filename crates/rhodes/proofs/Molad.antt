@@ -1,7 +1,7 @@
 -- Before any delay: Rhodes' molad is the counted one. In nineteenths of a part the parts to the counted molad are those to
 -- day 0 of August and D; so D is a multiple of 19, and its quotient and remainder are the molad's day and time. This holds
 -- for every year while D is above zero, which it is up to year 10,000.
-use mathlib.Core.Path.{_≡_, refl}
+use mathlib.Core.Path.{_≡_}
 use Prim.Native.Nat.{ℕ, _+_, _*_, _-_, _/_, _%_, _≤_, _<_}
 use native.Mathlib.Omega.{arith}
 use Rattle.civil.proofs.Ends.{august}

@@ -1,7 +1,7 @@
 -- Rhodes' route gives the counted New Year, for every year while D is above zero; so the two public answers are equal for
 -- every argument.
 use mathlib.Core.Path.{_≡_, refl, sym, _∙_}
-use mathlib.Core.Bool.{Bool, true, false, cond}
+use mathlib.Core.Bool.{Bool, true, false}
 use mathlib.Core.Logic.{by-cases}
 use Prim.Native.Nat.{ℕ, _+_, _*_, _-_, _/_, _%_, _≤_, _<_}
 use native.Mathlib.Omega.{arith}
@@ -15,7 +15,7 @@ use Rattle.molad.specs.Years.{leap}
 use Rattle.molad.specs.Molad.{moladDay, moladTime}
 use Rattle.newyear.specs.Delays.{delay}
 use Rattle.newyear.specs.NewYear.{newYear}
-use Rattle.newyear.specs.Answers.{newYearAnswer, noNewYear, newYearOn}
+use Rattle.newyear.specs.Answers.{newYearAnswer}
 use Rattle.rhodes.specs.Steps.{place, sinceLeap, distance, moladAugust, moladPart, pastNoon, noonAugust, noonPart, weekdayOfAugust, lateBy, delayOf, dayOfAugust, rhodesNewYear, rhodesMoladDay, rhodesMoladTime}
 use Rattle.rhodes.specs.Answers.{rhodesAnswer}
 use Rattle.rhodes.proofs.Place.{common, after-leap}
@@ -52,6 +52,7 @@ module _ (h : ℕ) (l : 1 ≤ h) (z : 0 < distance h) where
       let s : moladAugust h + d + late ≡ moladAugust h + (d + late) = omega arith in
       rw (← same-molad-time h l z, e, a, b, falls d, s, on (d + late))
 
+  -- The same New Year.
   pub same-new-year : rhodesNewYear h ≡ newYear h
   unfolding noonAugust noonPart pastNoon moladPart
   same-new-year =
@@ -67,14 +68,18 @@ module _ (h : ℕ) (l : 1 ≤ h) (z : 0 < distance h) where
       reached 0 t (rw b (omega arith)) (rw b)
       (same-late-before (leap h) (leap (h - 1)) (place h) w t (common h l) (after-leap h l) (omega arith) (omega arith) (omega arith)))
 
+-- For every year from 1 to 10,000: before any delay the same molad, day and part of the day; and the same New Year.
+pub same-route : (h : ℕ) → 1 ≤ h → h ≤ 10000 → (rhodesMoladDay h ≡ moladDay h 1) × ((rhodesMoladTime h ≡ moladTime h 1) × (rhodesNewYear h ≡ newYear h))
+same-route h l u =
+    let z = above-zero h u in (same-molad-day h l z, (same-molad-time h l z, same-new-year h l z))
+
 -- The two public answers, for every argument.
 answers : (h : ℕ) (b : Bool) → outside 1 10000 h ≡ b → rhodesAnswer h ≡ newYearAnswer h
 unfolding rhodesAnswer newYearAnswer
 answers h true e = rw e
 answers h false e =
     let w = within 1 10000 h e in
-    let z = above-zero h (w .1) in
-    rw (e, same-new-year h (w .0) z, same-molad-day h (w .0) z, same-molad-time h (w .0) z)
+    let s = same-route h (w .0) (w .1) in rw (e, s .0, s .1 .0, s .1 .1)
 
 pub same-answer : (h : ℕ) → rhodesAnswer h ≡ newYearAnswer h
 same-answer h = answers h (outside 1 10000 h) refl

@@ -16,8 +16,8 @@ place h = (12 * h + 5) % 19
 unfoldable pub sinceLeap : ℕ → ℕ
 sinceLeap h = (h - 1) % 4
 
--- D = 20,584,320 + 765,433 × n + 123,120 × r − 1,565 × H: from the evening on which 31 July begins, day 0 of August, to
--- the molad, in 492,480ths of a day. A part has 19 of them.
+-- D = 20,584,320 + 765,433 × n + 123,120 × r − 1,565 × H: from the start of day 0 of August, which is 31 July, to the
+-- molad, in 492,480ths of a day. A part has 19 of them.
 unfoldable pub distance : ℕ → ℕ
 distance h = 20584320 + 765433 * place h + 123120 * sinceLeap h - 1565 * h
 

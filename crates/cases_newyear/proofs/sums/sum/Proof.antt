@@ -1,5 +1,5 @@
 use borrow.Author.Needs.{needs}
-use Prim.Native.Nat.{_≤_, _<_, _+_, _-_}
+use Prim.Native.Nat.{_<_, _+_, _-_}
 use Rattle.cases_newyear.proofs.sums.sum.Statement.{statement}
 use Rattle.cases_newyear.proofs.sums.sum.Tie as tie
 

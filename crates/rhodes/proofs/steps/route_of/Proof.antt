@@ -10,8 +10,8 @@ use Rattle.rhodes.proofs.steps.route_of.Statement.{statement}
 use Rattle.rhodes.proofs.steps.route_of.Tie as tie
 
 sub-part : tie.Need-sub-part
-unfolding pastNoon moladPart distance place sinceLeap
-sub-part c = rw (c .pick2 .ensures .0) (noon-part (moladPart (c .before .before .args .year)) .0)
+unfolding pastNoon
+sub-part c = rw (c .pick2 .ensures .0) (noon-part _ .0)
 
 returns : tie.Need-returns
 unfolding routeOf place sinceLeap distance moladAugust moladPart pastNoon noonAugust noonPart weekdayOfAugust delayOf
