@@ -1,17 +1,17 @@
 -- The answers: what the steps that both calendars share come to, and that each public contract leaves one result.
 use mathlib.Core.Path.{_≡_, refl}
-use mathlib.Core.Bool.{Bool, true, false, cond}
-use Prim.Native.Nat.{ℕ, _+_, _≤_}
+use mathlib.Core.Bool.{Bool, true, false}
+use Prim.Native.Nat.{ℕ, _+_}
 use native.Mathlib.Omega.{arith}
 use borrow.Author.Tests.{ne-eqb}
 use lib.IntN.{ℤ}
 use Rattle.laws.proofs.One.{one-result}
 use Rattle.laws.proofs.Tests.{within}
 use Rattle.days.specs.Range.{firstDay, lastDay, outOfRange}
-use Rattle.civil.specs.Signed.{civil, raised, raisedIn, lowered}
-use Rattle.civil.specs.Calendar.{Calendar, julian, gregorian, daysBefore, monthDays, firstYear, daysTo, dayOf}
-use Rattle.civil.specs.Date.{Date, dateOf}
-use Rattle.civil.specs.Steps.{IsYear, dayIn, InYear, InMonth, DateIn}
+use Rattle.civil.specs.Signed.{civil, raised, raisedIn}
+use Rattle.civil.specs.Calendar.{Calendar, julian, gregorian, daysBefore, daysTo, dayOf}
+use Rattle.civil.specs.Date.{Date}
+use Rattle.civil.specs.Steps.{IsYear, dayIn, InYear, DateIn}
 use Rattle.civil.specs.Answers.{civilDay, civilDate}
 use Rattle.civil.specs.declared.CivilDay.{CivilDay}
 use Rattle.civil.specs.declared.CivilDate.{CivilDate}

@@ -47,7 +47,7 @@ gregorian-eve s l =
     let g = (begun s + 3) / 4 in
     omega (arith, gregorian-day s 1 0 l, january (gregorianLeap s))
 
--- The leap rule by the centuries begun before the year: it begins one itself if they are 100 to a year up to it.
+-- The leap rule by the centuries begun before the year: the year begins one itself if 100 times their number is the year.
 pub gregorian-rule : (s : ℕ) → divisible 4 s && not (eqb (100 * begun s) s && not (divisible 4 (begun s))) ≡ gregorianLeap s
 gregorian-rule s =
     let q = s / 100 in
@@ -60,15 +60,16 @@ gregorian-rule s =
     let b : begun s ≡ q = omega arith in rw (t, f, b, eq-eqb (100 * q) s (omega arith), eq-eqb r 0 p))
     (λ p. rw (t, f, ne-eqb (100 * begun s) s (λ z. p (omega arith)), ne-eqb r 0 p))
 
--- Day a of century c is, with the day that a short century drops put back, day z of its year k as if that were a Julian
--- year; and it is day y of the Gregorian year.
 either : (t : Bool) → cond (not t) 1 0 + cond t 1 0 ≡ 1
 either true = refl
 either false = refl
 
+-- The year k of century c lacks its leap day: it is the first year of a short century.
 abbrev pub dropped : ℕ → ℕ → Bool
 dropped c k = eqb k 0 && not (divisible 4 c)
 
+-- Day a of century c is, with the day that a short century drops put back, day z of its year k as if that were a Julian
+-- year; and it is day y of the Gregorian year s.
 module _ (c a k z : ℕ) (h : k < 100) (e : 365 * k + (k + 3) / 4 + z ≡ a + cond (not (divisible 4 c)) 1 0)
     (l : z < 365 + cond (divisible 4 k) 1 0) where
   abbrev s : ℕ

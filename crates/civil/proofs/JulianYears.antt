@@ -1,10 +1,9 @@
 -- The Julian calendar's years: a year's eve, and the year of a day.
 use mathlib.Core.Path.{_≡_, refl, sym, _∙_}
-use mathlib.Core.Bool.{Bool, cond}
 use Prim.Native.Nat.{ℕ, _+_, _-_, _*_, _/_, _%_, _≤_, _<_}
 use native.Mathlib.Omega.{arith}
 use Rattle.days.specs.Range.{firstDay, lastDay}
-use Rattle.civil.specs.Calendar.{julian, julianLeap, monthDays, daysBefore, yearDays, yearsDays, firstYear, divisible, daysTo, dayOf}
+use Rattle.civil.specs.Calendar.{julian, julianLeap, monthDays, daysBefore, yearsDays, firstYear, divisible, daysTo, dayOf}
 use Rattle.civil.specs.Steps.{InYear}
 use Rattle.civil.specs.declared.YearDay.{YearDay}
 use Rattle.civil.proofs.MonthStarts.{january, year-days}

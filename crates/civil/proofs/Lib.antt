@@ -8,4 +8,4 @@ pub mod JulianYears
 pub mod GregorianYears
 pub mod Raising
 pub mod Answers
-pub mod Ends
+pub mod Theorems

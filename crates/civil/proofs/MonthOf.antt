@@ -18,18 +18,18 @@ starts leap i =
     cond leap (getD (0 ∷ 31 ∷ 60 ∷ 91 ∷ 121 ∷ 152 ∷ 182 ∷ 213 ∷ 244 ∷ 274 ∷ 305 ∷ 335 ∷ 366 ∷ []) i 0)
     (getD (0 ∷ 31 ∷ 59 ∷ 90 ∷ 120 ∷ 151 ∷ 181 ∷ 212 ∷ 243 ∷ 273 ∷ 304 ∷ 334 ∷ 365 ∷ []) i 0)
 
-starts-all : (leap : Bool) → every 1 13 (λ m. eqb (starts leap (m - 1)) (daysBefore leap m) && leb (daysBefore leap m) 366) ≡ true
+starts-all : (leap : Bool) → every 1 13 (λ m. eqb (starts leap (m - 1)) (daysBefore leap m) && leb (starts leap (m - 1)) 366) ≡ true
 unfolding every daysBefore monthDays
 starts-all true = refl
 starts-all false = refl
 
-pub starts-right : (leap : Bool) (m : ℕ) → 1 ≤ m → m ≤ 13 → (starts leap (m - 1) ≡ daysBefore leap m) × (daysBefore leap m ≤ 366)
+pub starts-right : (leap : Bool) (m : ℕ) → 1 ≤ m → m ≤ 13 → (starts leap (m - 1) ≡ daysBefore leap m) × (starts leap (m - 1) ≤ 366)
 starts-right leap m l u =
     let t =
-    at 1 13 (λ m. eqb (starts leap (m - 1)) (daysBefore leap m) && leb (daysBefore leap m) 366) (starts-all leap) m l (omega arith) in
+    at 1 13 (λ m. eqb (starts leap (m - 1)) (daysBefore leap m) && leb (starts leap (m - 1)) 366) (starts-all leap) m l (omega arith) in
     (eqb-true _ _ (and-left _ _ t), leb-true _ _ (and-right (eqb (starts leap (m - 1)) (daysBefore leap m)) _ t))
 
--- The code's guess: twelve months of 32 days reach past each month's end by less than a month.
+-- The code's guess, and its one correction.
 abbrev pub guess : ℕ → ℕ
 guess y = y / 32 + 1
 

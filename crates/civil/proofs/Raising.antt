@@ -8,7 +8,7 @@ use lib.Dec.{ltb}
 use lib.IntN.{ℤ, pos, negsuc, subℕ, _+ℤ_}
 use lib.Signed.{mag}
 use Rattle.laws.proofs.Tests.{and-left}
-use Rattle.civil.specs.Signed.{civil, raised, raisedIn, lowered}
+use Rattle.civil.specs.Signed.{civil, raised, lowered}
 
 pub record Raised (y : ℤ) : Type 0 where
   pub sum : y +ℤ pos 4000 ≡ pos (raised y)

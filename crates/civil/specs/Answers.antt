@@ -1,6 +1,6 @@
 -- What the public functions answer. Where several refusals apply the smallest number is given: the tests stand in
 -- that order, and every other number of a refused answer is 0.
-use mathlib.Core.Bool.{Bool, not, cond}
+use mathlib.Core.Bool.{not, cond}
 use Prim.Native.Nat.{ℕ}
 use lib.IntN.{ℤ, pos}
 use Rattle.laws.specs.Runs.{outside}

@@ -17,11 +17,11 @@ pub fn days_before(leap: bool, month: u64) -> u64
     ensures { λ r. ⌜ (r ≡ daysBefore leap month) × (r ≤ 366) ⌝ }
 {
     let at = (month - 1) as usize;
-    pick(leap, LEAP[at], COMMON[at])
+    if leap { LEAP[at] } else { COMMON[at] }
 }
 
-// A step, for a day of the year, from 0. Twelve months of 32 days would be no shorter than the year, and no month lags
-// behind them by more than its own length.
+// A step, for a day of the year, from 0. No month has more than 31 days, so that the guess is never past the month; and
+// it is at most one short of it.
 pub fn month_of(leap: bool, day: u64) -> MonthDay
     requires { ⌜ day < yearDays leap ⌝ }
     ensures { λ r. ⌜ InMonth leap day (r .month) (r .day) ⌝ }

@@ -1,4 +1,7 @@
 pub mod Counted
 pub mod Cycle
+pub mod Found
 pub mod One
+pub mod Signed
+pub mod Stores
 pub mod Tests

@@ -4,7 +4,7 @@
 use mathlib.Core.Path.{_≡_}
 use Prim.Native.Nat.{ℕ, _+_, _*_, _-_, _/_, _%_, _≤_, _<_}
 use native.Mathlib.Omega.{arith}
-use Rattle.civil.proofs.Ends.{august}
+use Rattle.civil.proofs.Theorems.{august}
 use Rattle.molad.specs.Years.{monthsBefore}
 use Rattle.molad.specs.Molad.{moladAfter, moladDay, moladTime}
 use Rattle.molad.proofs.Closed.{months-closed}

@@ -1,19 +1,32 @@
--- The first and the last day of the range are document 01's dates; and the days of August, as Rhodes' route counts them.
+-- What holds of the two calendars: each day has exactly one date, each good date comes back from its own day, the first
+-- and the last day are document 01's dates; and the days of August, as Rhodes' route counts them.
 use mathlib.Core.Path.{_≡_, refl, sym}
 use mathlib.Core.Bool.{Bool, true, false, cond}
 use Prim.Native.Nat.{ℕ, _+_, _-_, _*_, _/_, _≤_}
 use native.Mathlib.Omega.{arith}
 use lib.IntN.{pos, negsuc}
 use Rattle.days.specs.Range.{firstDay, lastDay}
-use Rattle.civil.specs.Calendar.{Calendar, julian, gregorian, julianLeap, gregorianLeap, monthDays, daysBefore, firstYear, divisible, dayOf}
+use Rattle.civil.specs.Calendar.{julian, gregorian, julianLeap, gregorianLeap, monthDays, daysBefore, firstYear, divisible, dayOf}
 use Rattle.civil.specs.Date.{Date, dateOf}
 use Rattle.civil.specs.Answers.{civilDate}
 use Rattle.civil.proofs.Years.{fourth}
-use Rattle.civil.proofs.Dates.{lastYear, only-date}
+use Rattle.civil.proofs.Dates.{Good, day, lastYear, only-date, OneDate, one-date, comes-back}
 use Rattle.civil.proofs.JulianYears.{julian-covers, julian-day}
 use Rattle.civil.proofs.GregorianYears.{gregorian-covers, gregorian-day}
 
-abbrev date : ℕ → ℕ → ℕ → Date
+pub julian-one-date : (j : ℕ) → firstDay ≤ j → j ≤ lastDay → OneDate julian j
+julian-one-date = one-date julian julian-covers
+
+pub gregorian-one-date : (j : ℕ) → firstDay ≤ j → j ≤ lastDay → OneDate gregorian j
+gregorian-one-date = one-date gregorian gregorian-covers
+
+pub julian-comes-back : (x : Date) → Good julian x → firstDay ≤ day julian x → dateOf julian (day julian x) ≡ x
+julian-comes-back = comes-back julian julian-covers
+
+pub gregorian-comes-back : (x : Date) → Good gregorian x → firstDay ≤ day gregorian x → dateOf gregorian (day gregorian x) ≡ x
+gregorian-comes-back = comes-back gregorian gregorian-covers
+
+abbrev pub date : ℕ → ℕ → ℕ → Date
 date s m d = record { year = s; month = m; day = d }
 
 pub julian-first-date : dateOf julian firstDay ≡ date firstYear 10 7

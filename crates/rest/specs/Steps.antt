@@ -1,0 +1,51 @@
+-- How the code works: on the days of one year, counted from 0 at New Year, which falls on weekday w. What is believed
+-- stands in Table and Stretches; that these steps come to the same is proved.
+use mathlib.Core.Bool.{Bool, _&&_, _||_, not, cond}
+use mathlib.Core.List.{List, [], _∷_, _++_}
+use Prim.Native.Nat.{ℕ, zero, suc, _+_, _-_, _%_}
+use lib.Dec.{eqb, leb, ltb}
+use Rattle.laws.specs.Runs.{elem}
+use Rattle.laws.specs.Search.{seek}
+use Rattle.hebrew.specs.Months.{daysBefore}
+use Rattle.rest.specs.declared.table.Feast.{Feast}
+
+-- The place of a row of the table in a year of the given length.
+abbrev pub place : ℕ → Feast → ℕ
+place len f = daysBefore len (f .month) + f .day - 1
+
+unfoldable pub places : List Feast → ℕ → List ℕ
+places [] len = []
+places (f ∷ table) len = place len f ∷ places table len
+
+-- Day x is a Saturday, or one of the places.
+unfoldable pub restAt : List ℕ → ℕ → ℕ → Bool
+restAt feasts w x = eqb ((w + x) % 7) 0 || elem x feasts
+
+-- The first rest day from x on; the year's length where there is none.
+unfoldable pub nextAt : List ℕ → ℕ → ℕ → ℕ → ℕ
+nextAt feasts w len x = seek (restAt feasts w) (len - x) x
+
+-- How many rest days, at most two, come just before day x.
+unfoldable pub backAt : List ℕ → ℕ → ℕ → ℕ
+backAt feasts w x = cond (leb 1 x && restAt feasts w (x - 1)) (cond (leb 2 x && restAt feasts w (x - 2)) 2 1) 0
+
+-- How many rest days, at most three, the run from rest day x on has.
+unfoldable pub runAt : List ℕ → ℕ → ℕ → ℕ
+runAt feasts w x = cond (restAt feasts w (x + 1)) (cond (restAt feasts w (x + 2)) 3 2) 1
+
+-- The run for day x: that of the next rest day in the year or, where none is left, the run that the next New Year begins;
+-- its days are counted on past the year's length.
+unfoldable pub firstFor : List ℕ → ℕ → ℕ → ℕ → ℕ
+firstFor feasts w len x = let n = nextAt feasts w len x in cond (ltb n len) (n - backAt feasts w n) len
+
+unfoldable pub lengthFor : List ℕ → ℕ → ℕ → ℕ → ℕ
+lengthFor feasts w len x = cond (ltb (nextAt feasts w len x) len) (runAt feasts w (firstFor feasts w len x)) (runAt feasts (w + len) 0)
+
+-- Day x is a run's first. The day before New Year is no rest day.
+unfoldable pub beginsAt : List ℕ → ℕ → ℕ → Bool
+beginsAt feasts w x = restAt feasts w x && not (leb 1 x && restAt feasts w (x - 1))
+
+-- Day number and length of each run that begins on one of the first n days of the year that begins on day j.
+unfoldable pub rowsAt : List ℕ → ℕ → ℕ → ℕ → List ℕ
+rowsAt feasts w j zero = []
+rowsAt feasts w j (suc n) = rowsAt feasts w j n ++ cond (beginsAt feasts w n) ((j + n) ∷ runAt feasts w n ∷ []) []
