@@ -1,4 +1,6 @@
 pub mod Answered
+pub mod Answers
+pub mod Checked
 pub mod Growing
 pub mod Listed
 pub mod Passed
@@ -10,3 +12,4 @@ pub mod Spanned
 pub mod StretchOf
 pub mod Theorems
 pub mod Walk
+pub mod WholeList
