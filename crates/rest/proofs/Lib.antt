@@ -1,3 +1,4 @@
+pub mod Alike
 pub mod Answered
 pub mod Answers
 pub mod Checked
