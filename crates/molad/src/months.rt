@@ -12,14 +12,14 @@ pub struct Months {
     pub after_leap: bool,
 }
 
-// A step, for the years 1 to 10,001.
+// A step, for the years 1 to 10,001. The division by 19 is a product and a shift.
 pub fn months_before(year: u64) -> Months
     requires { ⌜ (1 ≤ year) × (year ≤ 10001) ⌝ }
     ensures { λ r. ⌜ (r .months ≡ monthsBefore year) × ((r .leap ≡ leap year) × ((r .«after_leap» ≡ leap (year - 1)) × (r .months ≤ 123700))) ⌝ }
 {
     let scaled = 235 * year - 234;
-    let months = scaled / 19;
-    let left = scaled % 19;
+    let months = scaled * 1_766_023 / 33_554_432;
+    let left = scaled - 19 * months;
     Months {
         months,
         leap: 12 <= left,

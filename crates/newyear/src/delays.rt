@@ -10,14 +10,8 @@ pub fn delay(weekday: u64, time: u64, leap: bool, after_leap: bool) -> u64
     ensures { λ r. ⌜ (r ≡ Delays·delay weekday time leap «after_leap») × (r ≤ 2) ⌝ }
 {
     let noon = laws::pick(19440 <= time, 1, 0);
-    // 8 is the Sunday after a Saturday.
-    let then = weekday + noon;
-    let later = noon
-        + laws::pick(
-            (then == 1) | ((then == 4) | ((then == 6) | (then == 8))),
-            1,
-            0,
-        );
+    // Bits 1, 4, 6 and 8 of 338: Sunday, Wednesday, Friday and the Sunday after a Saturday.
+    let later = noon + (338 >> (weekday + noon)) % 2;
     let monday = laws::pick(
         after_leap & (weekday == 2) & (16789 <= time) & (time < 19440),
         1,

@@ -59,7 +59,7 @@ pub fn new_year(year: u64) -> NewYearAnswer
     NewYearAnswer {
         refusal: 0,
         day: t.new_year,
-        weekday: days::weekday_of(t.new_year),
+        weekday: t.weekday,
         molad_day: t.molad_day,
         molad_hour: t.molad_time / 1080,
         molad_part: t.molad_time % 1080,
