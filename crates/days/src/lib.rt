@@ -1,4 +1,7 @@
 // What is a day number: the range, and the weekday.
+//
+// A day number is a Julian Day Number, J: the days of all calendars in one count. A Hebrew day begins at 18:00 and has the
+// J of the civil day that holds its daylight. The range is that of the Hebrew years 1 to 9999.
 ghost use mathlib.Core.Path.{_≡_};
 ghost use Prim.Native.Nat.{_<_, _≤_};
 ghost use Rattle.days.specs.Range.{outOfRange};

@@ -6,6 +6,7 @@ pub mod Growing
 pub mod Listed
 pub mod Passed
 pub mod Places
+pub mod Promised
 pub mod RestOfYear
 pub mod Rows
 pub mod ShortRuns
