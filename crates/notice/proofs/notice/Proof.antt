@@ -32,4 +32,5 @@ notice-spec =
     returns
     (λ c κs. told c .near)
     (λ c. let g = told (c .before .before) in search needs)
+    (search needs)
     returns-2)
