@@ -6,16 +6,13 @@ use Prim.Native.Nat.{ℕ, zero, suc, _+_, _*_, _-_, _^_, _≤_, _<_}
 use native.Mathlib.Nat.{mul-assoc, pow-suc, pow-le-pow-right}
 use native.Mathlib.Numerals.{add-one}
 use native.Mathlib.Omega.{arith}
+use borrow.Author.Tests.{not-true}
 use lib.Dec.{eqb, lit<}
 use lib.ListN.{length, take, getD, length-append}
 use Rattle.bytes.specs.Bytes.{indexOf, indexAfter}
 use Rattle.laws.specs.Runs.{outside, eachOf}
 use Rattle.laws.proofs.Tests.{within, and-left, and-right}
 use Rattle.line.specs.Line.{firstLine, figure, decimal}
-
-not-true : (b : Bool) → not b ≡ true → b ≡ false
-not-true true e = sym e
-not-true false e = refl
 
 -- The first line ends where the first line feed stands.
 taken : (b : Bool) (byte : ℕ) (n : ℕ) (rest line : List ℕ) → take n rest ≡ line → take (indexAfter b n) (byte ∷ rest) ≡ cond b [] (byte ∷ line)

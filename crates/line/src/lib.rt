@@ -15,6 +15,7 @@ ghost use Rattle.line.specs.Answers.{lineAnswer};
 const LINE_END: u8 = 10;
 // The figures 0 and 9.
 const NOUGHT: u8 = 48;
+
 const NINE: u8 = 57;
 
 #[repr(C)]

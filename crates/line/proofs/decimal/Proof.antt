@@ -31,10 +31,13 @@ loop-again : tie.Need-loop-again Inv-loop μ-loop
 loop-again c =
     let l = c .before .before .before in
     let s = l .before .before .args .line .now in
-    let h : l .loop .i < length s = omega arith in
-    (search needs,
-    (rw (l .loop .inv .1 .0, c .worth .ensures .0, add-one, take-suc s (l .loop .i) 0) (sym (decimal-more (take (l .loop .i) s) _)),
-    below-more (l .loop .n) (l .loop .i) (c .worth .result) (l .loop .inv .1 .1) (c .worth .ensures .1)))
+    let h : l .loop .i < length s = omega arith in (
+      search needs,
+      (
+        rw (l .loop .inv .1 .0, c .worth .ensures .0, add-one, take-suc s (l .loop .i) 0) (sym (decimal-more (take (l .loop .i) s) _)),
+        below-more (l .loop .n) (l .loop .i) (c .worth .result) (l .loop .inv .1 .1) (c .worth .ensures .1),
+      ),
+    )
 
 returns : tie.Need-returns Inv-loop μ-loop
 returns c =
