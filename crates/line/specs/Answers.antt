@@ -11,6 +11,10 @@ use Rattle.line.specs.declared.LineAnswer.{LineAnswer}
 abbrev pub noYear : List ℕ → Bool
 noYear line = outside 1 5 (length line) || not (eachOf line figure)
 
--- Refusal 1: the first line holds anything but one to five figures; empty input has an empty first line.
+-- Refusal 1: the line holds anything but one to five figures. An empty line holds no figure.
+unfoldable pub lineOf : List ℕ → LineAnswer
+lineOf line = cond (noYear line) (record { refusal = 1; year = 0 }) (record { refusal = 0; year = decimal line })
+
+-- Only the first line is read; that of empty input is empty.
 unfoldable pub lineAnswer : List ℕ → LineAnswer
-lineAnswer input = cond (noYear (firstLine input)) (record { refusal = 1; year = 0 }) (record { refusal = 0; year = decimal (firstLine input) })
+lineAnswer input = lineOf (firstLine input)

@@ -6,7 +6,7 @@ use lib.ListN.{length, take}
 use lib.Seq.{length-take-le}
 use Rattle.laws.specs.Runs.{outside}
 use Rattle.laws.proofs.Tests.{within, or-left, or-right}
-use Rattle.line.specs.Answers.{lineAnswer}
+use Rattle.line.specs.Answers.{lineAnswer, lineOf}
 use Rattle.line.proofs.year_on_line.Statement.{statement}
 use Rattle.line.proofs.year_on_line.Tie as tie
 
@@ -15,7 +15,7 @@ whole : (c : tie.After-line-length) → let n = c .line-length .result in length
 whole c = length-take-le (c .line-length .result) (c .before .before .args .input .now) (c .line-length .ensures .0)
 
 returns : tie.Need-returns
-unfolding lineAnswer
+unfolding lineAnswer lineOf
 returns c =
     let f = c .before in
     let l = f .before .before in
@@ -30,7 +30,7 @@ decimal-requires c κs =
     (rw (whole l) (w .1), sym (f .all-figures .ensures) ∙ not-false _ (or-right (outside 1 5 n) _ (c .if1 .left)))
 
 returns-2 : tie.Need-returns-2
-unfolding lineAnswer
+unfolding lineAnswer lineOf
 returns-2 c =
     let t = c .before in
     let f = t .before in
