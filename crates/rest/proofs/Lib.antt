@@ -1,7 +1,12 @@
+pub mod Answered
+pub mod Growing
+pub mod Listed
+pub mod Passed
 pub mod Places
 pub mod RestOfYear
 pub mod Rows
 pub mod ShortRuns
+pub mod Spanned
 pub mod StretchOf
 pub mod Theorems
 pub mod Walk

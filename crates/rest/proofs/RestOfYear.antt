@@ -99,7 +99,7 @@ module _ (table : List Feast) (ok : passes table ≡ true) where
         let t = and-right (rowsGood table len) _ (and-left _ _ (and-left _ _ in-kind)) in
         let e : restAt feasts w 0 ≡ true = rw (t, or-true) in rw z at (rest-placed 0 (omega arith) ∙ e)
 
-    last-day-works : restAt feasts w (len - 1) ≡ false
+    pub last-day-works : restAt feasts w (len - 1) ≡ false
     unfolding passesIn
     last-day-works = not-true _ (and-right (rowsGood table len && elem 0 feasts) _ (and-left _ _ in-kind))
 

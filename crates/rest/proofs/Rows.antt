@@ -20,17 +20,17 @@ use Rattle.rest.specs.Check.{rowsGood}
 use Rattle.rest.specs.declared.table.Feast.{Feast}
 
 -- A row that is a date of a year of this length.
-record GoodRow (len : ℕ) (f : Feast) : Type 0 where
-  code : (1 ≤ f .month) × (f .month ≤ 13)
-  day : (1 ≤ f .day) × (f .day ≤ monthLength len (f .month))
+pub record GoodRow (len : ℕ) (f : Feast) : Type 0 where
+  pub code : (1 ≤ f .month) × (f .month ≤ 13)
+  pub day : (1 ≤ f .day) × (f .day ≤ monthLength len (f .month))
 
-good-row : (f : Feast) (table : List Feast) (len : ℕ) → rowsGood (f ∷ table) len ≡ true → GoodRow len f
+pub good-row : (f : Feast) (table : List Feast) (len : ℕ) → rowsGood (f ∷ table) len ≡ true → GoodRow len f
 unfolding rowsGood
 good-row f table len e =
     let t = and-left _ _ e in
     record { code = within 1 13 _ (not-true _ (and-left _ _ t)); day = within 1 _ _ (not-true _ (and-right (not (outside 1 13 (f .month))) _ t)) }
 
-good-rows : (f : Feast) (table : List Feast) (len : ℕ) → rowsGood (f ∷ table) len ≡ true → rowsGood table len ≡ true
+pub good-rows : (f : Feast) (table : List Feast) (len : ℕ) → rowsGood (f ∷ table) len ≡ true → rowsGood table len ≡ true
 unfolding rowsGood
 good-rows f table len e = and-right (not (outside 1 13 (f .month)) && not (outside 1 (monthLength len (f .month)) (f .day))) _ e
 

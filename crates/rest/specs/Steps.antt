@@ -3,7 +3,7 @@
 use mathlib.Core.Bool.{Bool, _&&_, _||_, not, cond}
 use mathlib.Core.List.{List, [], _∷_, _++_}
 use Prim.Native.Nat.{ℕ, zero, suc, _+_, _-_, _%_}
-use lib.Dec.{eqb, leb}
+use lib.Dec.{eqb, leb, ltb}
 use Rattle.laws.specs.Runs.{elem}
 use Rattle.laws.specs.Search.{seek}
 use Rattle.hebrew.specs.Months.{daysBefore}
@@ -16,6 +16,11 @@ place len f = daysBefore len (f .month) + f .day - 1
 unfoldable pub places : List Feast → ℕ → List ℕ
 places [] len = []
 places (f ∷ table) len = place len f ∷ places table len
+
+-- The day numbers of places in the year that begins on day j.
+unfoldable pub daysAt : ℕ → List ℕ → List ℕ
+daysAt j [] = []
+daysAt j (x ∷ feasts) = (j + x) ∷ daysAt j feasts
 
 -- Day x is a Saturday, or one of the places.
 unfoldable pub restAt : List ℕ → ℕ → ℕ → Bool
@@ -32,3 +37,20 @@ backAt feasts w x = cond (leb 1 x && restAt feasts w (x - 1)) (cond (leb 2 x && 
 -- How many rest days, at most three, the run from rest day x on has.
 unfoldable pub runAt : List ℕ → ℕ → ℕ → ℕ
 runAt feasts w x = cond (restAt feasts w (x + 1)) (cond (restAt feasts w (x + 2)) 3 2) 1
+
+-- The run for day x: that of the next rest day in the year or, where none is left, the run that the next New Year begins;
+-- its days are counted on past the year's length.
+unfoldable pub firstFor : List ℕ → ℕ → ℕ → ℕ → ℕ
+firstFor feasts w len x = let n = nextAt feasts w len x in cond (ltb n len) (n - backAt feasts w n) len
+
+unfoldable pub lengthFor : List ℕ → ℕ → ℕ → ℕ → ℕ
+lengthFor feasts w len x = cond (ltb (nextAt feasts w len x) len) (runAt feasts w (firstFor feasts w len x)) (runAt feasts (w + len) 0)
+
+-- Day x is a run's first. The day before New Year is no rest day.
+unfoldable pub beginsAt : List ℕ → ℕ → ℕ → Bool
+beginsAt feasts w x = restAt feasts w x && not (leb 1 x && restAt feasts w (x - 1))
+
+-- Day number and length of each run that begins on one of the first n days of the year that begins on day j.
+unfoldable pub rowsAt : List ℕ → ℕ → ℕ → ℕ → List ℕ
+rowsAt feasts w j zero = []
+rowsAt feasts w j (suc n) = rowsAt feasts w j n ++ cond (beginsAt feasts w n) ((j + n) ∷ runAt feasts w n ∷ []) []

@@ -37,3 +37,90 @@ fn days_left(first: u64, day: u64) -> i64
 {
     (first as i64) - (day as i64)
 }
+
+// Refusal 4 for a day outside the range; 9 where no stretch in range ends on or after the day.
+pub fn stretch(day: u64) -> StretchAnswer
+    ensures { λ r. ⌜ r ≡ stretchAnswer restTable day ⌝ }
+{
+    if days::out_of_range(day) {
+        return StretchAnswer {
+            refusal: 4,
+            first: 0,
+            length: 0,
+            days_left: 0,
+        };
+    }
+    let span = newyear::year_holding(day);
+    let places = feasts(span.length);
+    let weekday = days::weekday_of(span.new_year);
+    let run = runs::run_for(&places, weekday, span.length, day - span.new_year);
+    let first = span.new_year + run.first;
+    if days::LAST_DAY < first {
+        return StretchAnswer {
+            refusal: 9,
+            first: 0,
+            length: 0,
+            days_left: 0,
+        };
+    }
+    StretchAnswer {
+        refusal: 0,
+        first,
+        length: run.length,
+        days_left: days_left(first, day),
+    }
+}
+
+// The day numbers of the year's rest days, in table order. Refusal 1 for a year outside 1..9999; 10 for a buffer of fewer
+// than eight entries, which it leaves as it was.
+pub fn rest_days(year: u64, out: &mut [u64]) -> ListAnswer
+    ensures { λ r. ⌜ (r ≡ restDaysAnswer restTable year (now (out .entry))) × (now (out .exit) ≡ restDaysBuffer restTable year (now (out .entry))) ⌝ }
+{
+    if (year < 1) | (9999 < year) {
+        return ListAnswer {
+            refusal: 1,
+            count: 0,
+        };
+    }
+    if out.len() < 8 {
+        return ListAnswer {
+            refusal: 10,
+            count: 8,
+        };
+    }
+    let span = newyear::year_span(year);
+    let places = feasts(span.length);
+    lists::write_days(&places, span.new_year, out);
+    ListAnswer {
+        refusal: 0,
+        count: 8,
+    }
+}
+
+// First day and length of each stretch that begins in the year, rising, two entries each. Refusals as above, 10 telling
+// how many entries are wanted; else the answer tells how many stretches.
+pub fn stretches(year: u64, out: &mut [u64]) -> ListAnswer
+    ensures { λ r. ⌜ (r ≡ stretchesAnswer restTable year (now (out .entry))) × (now (out .exit) ≡ stretchesBuffer restTable year (now (out .entry))) ⌝ }
+{
+    if (year < 1) | (9999 < year) {
+        return ListAnswer {
+            refusal: 1,
+            count: 0,
+        };
+    }
+    let span = newyear::year_span(year);
+    let places = feasts(span.length);
+    let weekday = days::weekday_of(span.new_year);
+    let wanted = lists::entries(&places, weekday, span.length);
+    if out.len() < wanted {
+        return ListAnswer {
+            refusal: 10,
+            count: wanted as u64,
+        };
+    }
+    lists::write_stretches(&places, weekday, span.new_year, span.length, out);
+    ListAnswer {
+        refusal: 0,
+        count: wanted as u64 / 2,
+    }
+}

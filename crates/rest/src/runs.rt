@@ -3,7 +3,7 @@
 ghost use mathlib.Core.Path.{_≡_};
 ghost use Prim.Native.Nat.{_≤_};
 ghost use Rattle.laws.specs.Runs.{elem};
-ghost use Rattle.rest.specs.Steps.{restAt, nextAt, backAt, runAt};
+ghost use Rattle.rest.specs.Steps.{restAt, nextAt, backAt, runAt, firstFor, lengthFor, beginsAt};
 
 // Is x one of the places?
 fn among(feasts: &[u64], x: u64) -> bool
@@ -20,7 +20,7 @@ fn among(feasts: &[u64], x: u64) -> bool
 }
 
 pub fn rest_at(feasts: &[u64], weekday: u64, x: u64) -> bool
-    requires { ⌜ (weekday ≤ 7) × (x ≤ 1000) ⌝ }
+    requires { ⌜ (weekday ≤ 400) × (x ≤ 1000) ⌝ }
     ensures { λ r. ⌜ r ≡ restAt (now (feasts .entry)) weekday x ⌝ }
 {
     ((weekday + x) % 7 == 0) | among(feasts, x)
@@ -28,7 +28,7 @@ pub fn rest_at(feasts: &[u64], weekday: u64, x: u64) -> bool
 
 // The first rest day from x on; the year's length where there is none.
 pub fn next_at(feasts: &[u64], weekday: u64, length: u64, x: u64) -> u64
-    requires { ⌜ (weekday ≤ 7) × ((length ≤ 385) × (x ≤ length)) ⌝ }
+    requires { ⌜ (weekday ≤ 400) × ((length ≤ 385) × (x ≤ length)) ⌝ }
     ensures { λ r. ⌜ (r ≡ nextAt (now (feasts .entry)) weekday length x) × ((x ≤ r) × (r ≤ length)) ⌝ }
 {
     let mut y = x;
@@ -43,7 +43,7 @@ pub fn next_at(feasts: &[u64], weekday: u64, length: u64, x: u64) -> u64
 
 // How many rest days, at most two, come just before day x.
 pub fn back_at(feasts: &[u64], weekday: u64, x: u64) -> u64
-    requires { ⌜ (weekday ≤ 7) × (x ≤ 385) ⌝ }
+    requires { ⌜ (weekday ≤ 400) × (x ≤ 385) ⌝ }
     ensures { λ r. ⌜ (r ≡ backAt (now (feasts .entry)) weekday x) × (r ≤ x) ⌝ }
 {
     if x < 1 {
@@ -64,7 +64,7 @@ pub fn back_at(feasts: &[u64], weekday: u64, x: u64) -> u64
 
 // How many rest days, at most three, the run from rest day x on has.
 pub fn run_at(feasts: &[u64], weekday: u64, x: u64) -> u64
-    requires { ⌜ (weekday ≤ 7) × (x ≤ 385) ⌝ }
+    requires { ⌜ (weekday ≤ 400) × (x ≤ 385) ⌝ }
     ensures { λ r. ⌜ (r ≡ runAt (now (feasts .entry)) weekday x) × (r ≤ 3) ⌝ }
 {
     if !rest_at(feasts, weekday, x + 1) {
@@ -75,4 +75,44 @@ pub fn run_at(feasts: &[u64], weekday: u64, x: u64) -> u64
     } else {
         2
     }
+}
+
+pub struct Stretch {
+    pub first: u64,
+    pub length: u64,
+}
+
+// The run for day x: that of the next rest day or, where none is left in the year, the run that the next New Year begins.
+pub fn run_for(feasts: &[u64], weekday: u64, length: u64, x: u64) -> Stretch
+    requires { ⌜ (weekday ≤ 7) × ((length ≤ 385) × (x ≤ length)) ⌝ }
+    ensures { λ r. ⌜ ((r .first ≡ firstFor (now (feasts .entry)) weekday length x) × (r .length ≡ lengthFor (now (feasts .entry)) weekday length x))
+        × ((r .first ≤ length) × (r .length ≤ 3)) ⌝ }
+{
+    let n = next_at(feasts, weekday, length, x);
+    if n < length {
+        let first = n - back_at(feasts, weekday, n);
+        Stretch {
+            first,
+            length: run_at(feasts, weekday, first),
+        }
+    } else {
+        Stretch {
+            first: length,
+            length: run_at(feasts, weekday + length, 0),
+        }
+    }
+}
+
+// Is day x a run's first?
+pub fn begins_at(feasts: &[u64], weekday: u64, x: u64) -> bool
+    requires { ⌜ (weekday ≤ 7) × (x ≤ 385) ⌝ }
+    ensures { λ r. ⌜ r ≡ beginsAt (now (feasts .entry)) weekday x ⌝ }
+{
+    if !rest_at(feasts, weekday, x) {
+        return false;
+    }
+    if x < 1 {
+        return true;
+    }
+    !rest_at(feasts, weekday, x - 1)
 }

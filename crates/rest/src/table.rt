@@ -1,7 +1,7 @@
 // The table of rest days, and where its rows fall in a year.
 ghost use mathlib.Core.Path.{_≡_};
-ghost use Prim.Native.Nat.{_≤_, _<_};
-ghost use lib.ListN.{length};
+ghost use Prim.Native.Nat.{ℕ, _≤_};
+ghost use lib.ListN.{getD};
 ghost use Rattle.newyear.specs.Kinds.{IsLength};
 ghost use Rattle.rest.specs.Table.{restTable};
 ghost use Rattle.rest.specs.Steps.{places};
@@ -26,7 +26,7 @@ const REST_TABLE: [Feast; 8] = [
 // How many days after New Year each row of the table falls, in a year of this length.
 pub fn feasts(length: u64) -> [u64; 8]
     requires { ⌜ IsLength length ⌝ }
-    ensures { λ r. ⌜ r ≡ places restTable length ⌝ }
+    ensures { λ r. ⌜ (r ≡ places restTable length) × ((x : ℕ) → getD r x 0 ≤ 400) ⌝ }
 {
     let mut at = [0u64; 8];
     let mut i = 0;

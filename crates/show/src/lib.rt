@@ -1,4 +1,5 @@
-// What the programs print with: words, numbers and line ends on standard output.
+// What the programs print with: words, numbers and line ends on standard output; and one number for many.
+ghost use Prim.Native.Nat.{_<_};
 use libc::STDOUT_FILENO;
 
 pub fn text(words: &[u8]) {
@@ -36,4 +37,14 @@ pub fn signed(n: i64) {
 
 pub fn end() {
     io::write_all(STDOUT_FILENO, b"\n");
+}
+
+const PRIME: u64 = 1_000_000_007;
+
+// The numbers so far, as figures to the base 31, and one more.
+pub fn mixed(sum: u64, next: u64) -> u64
+    requires { ⌜ sum < 1000000007 ⌝ }
+    ensures { λ r. ⌜ r < 1000000007 ⌝ }
+{
+    (sum * 31 + next % PRIME) % PRIME
 }

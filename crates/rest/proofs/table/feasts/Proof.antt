@@ -10,7 +10,7 @@ use Rattle.laws.specs.Buffer.{overwrite}
 use Rattle.laws.proofs.Stores.{over-take}
 use Rattle.rest.specs.Table.{restTable}
 use Rattle.rest.specs.Steps.{places}
-use Rattle.rest.proofs.Places.{place-at, places-length, row-facts}
+use Rattle.rest.proofs.Places.{place-at, places-length, places-small, row-facts}
 use Rattle.rest.proofs.table.feasts.Statement.{statement}
 use Rattle.rest.proofs.table.feasts.Tie as tie
 
@@ -49,7 +49,8 @@ returns c =
     let i = c .before .loop .i in
     let few = places-length restTable len in
     let done = take-all i (places restTable len) (omega arith) in
-    rw (done, few, append-nil) at (c .before .loop .inv .1)
+    let e : c .before .loop .at ≡ places restTable len = rw (done, few, append-nil) at (c .before .loop .inv .1) in
+    (e, λ x. rw e (places-small len (c .before .before .pre) x))
 
 pub feasts-spec : {M : Type 1} → statement M
 feasts-spec =

@@ -1,0 +1,57 @@
+// All 3,652,078 days of the range, there and back, each date mixed into one number.
+ghost use Prim.Native.Nat.{_<_};
+use show::end;
+use show::number;
+use show::text;
+
+const PRIME: u64 = 1_000_000_007;
+
+struct Walked {
+    // How many days do not come back from their date.
+    wrong: u64,
+    sum: u64,
+}
+
+// The numbers so far as figures to the base 31, and one more.
+fn mixed(sum: u64, next: u64) -> u64
+    requires { ⌜ sum < 1000000007 ⌝ }
+    ensures { λ r. ⌜ r < 1000000007 ⌝ }
+{
+    (sum * 31 + next % PRIME) % PRIME
+}
+
+fn dated(sum: u64, date: hebrew::HebrewDate) -> u64
+    requires { ⌜ sum < 1000000007 ⌝ }
+    ensures { λ r. ⌜ r < 1000000007 ⌝ }
+{
+    let by_year = mixed(mixed(mixed(sum, date.year), date.month), date.day);
+    mixed(
+        mixed(mixed(by_year, date.new_year), date.length),
+        date.day_of_year,
+    )
+}
+
+fn there_and_back() -> Walked {
+    let mut wrong: u64 = 0;
+    let mut sum: u64 = 0;
+    let mut day = days::FIRST_DAY;
+    while day <= days::LAST_DAY {
+        let date = hebrew::day_to_hebrew(day);
+        let back = hebrew::hebrew_to_day(date.year, date.month, date.day);
+        if (date.refusal != 0) | ((back.refusal != 0) | (back.day != day)) {
+            wrong += 1;
+        }
+        sum = dated(sum, date);
+        day += 1;
+    }
+    Walked { wrong, sum }
+}
+
+pub fn rows() {
+    let walked = there_and_back();
+    text(b"every day of the range, there and back: wrong");
+    number(walked.wrong);
+    text(b", sum");
+    number(walked.sum);
+    end();
+}

@@ -1,0 +1,5 @@
+pub mod Place
+pub mod Molad
+pub mod Late
+pub mod Same
+pub mod Answers

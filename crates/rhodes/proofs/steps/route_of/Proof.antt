@@ -1,0 +1,55 @@
+-- Each value is its definition's; only what the noon step takes off the time is written without a branch.
+use borrow.Author.Needs.{needs}
+use Prim.Native.Nat.{_+_}
+use native.Mathlib.Omega.{arith}
+use Rattle.laws.proofs.Tests.{cond-le}
+use Rattle.rhodes.specs.Steps.{place, sinceLeap, distance, moladAugust, moladPart, pastNoon, noonAugust, noonPart, weekdayOfAugust, delayOf}
+use Rattle.rhodes.specs.Answers.{routeOf}
+use Rattle.rhodes.proofs.Late.{noon-part}
+use Rattle.rhodes.proofs.steps.route_of.Statement.{statement}
+use Rattle.rhodes.proofs.steps.route_of.Tie as tie
+
+sub-part : tie.Need-sub-part
+unfolding pastNoon
+sub-part c = rw (c .pick2 .ensures .0) (noon-part _ .0)
+
+returns : tie.Need-returns
+unfolding routeOf place sinceLeap distance moladAugust moladPart pastNoon noonAugust noonPart weekdayOfAugust delayOf
+returns c =
+    let n = c .before .before in
+    let h = n .before .args .year in
+    let i = moladAugust h in (
+      rw (c .late-by .ensures .0, c .before .pick2 .ensures .0, n .pick .ensures .0, noon-part (moladPart h) .1),
+      (
+        omega arith,
+        (
+          rw (n .pick .ensures .0) (cond-le (pastNoon (moladPart h)) (i + 1) i 71 (omega arith) (omega arith)),
+          c .late-by .ensures .1,
+        ),
+      ),
+    )
+
+pub route-of-spec : {M : Type 1} → statement M
+route-of-spec =
+    tie.close
+    (tie.spec
+    (search needs)
+    (search needs)
+    (search needs)
+    (search needs)
+    (search needs)
+    (search needs)
+    (search needs)
+    (search needs)
+    (search needs)
+    (search needs)
+    (search needs)
+    (search needs)
+    sub-part
+    (search needs)
+    (search needs)
+    (search needs)
+    (search needs)
+    (search needs)
+    (search needs)
+    returns)

@@ -1,0 +1,63 @@
+// Rhodes' steps, in numbers that stay below 2³².
+ghost use mathlib.Core.Path.{_≡_};
+ghost use Prim.Native.Nat.{_≤_, _<_};
+ghost use Rattle.rhodes.specs.Steps.{lateBy};
+ghost use Rattle.rhodes.specs.Answers.{routeOf};
+
+pub struct Route {
+    // n, the year's place in the cycle of 19 years.
+    pub place: u64,
+    // r, the years since the last Julian leap year.
+    pub since_leap: u64,
+    // D, from day 0 of August to the molad, in 492,480ths of a day.
+    pub distance: u64,
+    // i' and f', the molad's day of August and its time in parts.
+    pub molad_august: u64,
+    pub molad_part: u64,
+    // i and f, after the noon step.
+    pub august: u64,
+    pub part: u64,
+    // w, Saturday being 0.
+    pub weekday: u64,
+    pub delay: u64,
+}
+
+// The delay by n, w and f, for all of them.
+pub fn late_by(place: u64, weekday: u64, part: u64) -> u64
+    ensures { λ r. ⌜ (r ≡ lateBy place weekday part) × (r ≤ 2) ⌝ }
+{
+    let tuesday = laws::pick((weekday == 3) & (6 < place) & (9924 <= part), 2, 0);
+    let monday = laws::pick((weekday == 2) & (11 < place) & (16789 <= part), 1, tuesday);
+    laws::pick(
+        (weekday == 1) | ((weekday == 4) | (weekday == 6)),
+        1,
+        monday,
+    )
+}
+
+// A step, for the years 1 to 10,000.
+pub fn route_of(year: u64) -> Route
+    requires { ⌜ (1 ≤ year) × (year ≤ 10000) ⌝ }
+    ensures { λ r. ⌜ (r ≡ routeOf year) × ((r .«molad_august» ≤ 70) × ((r .august ≤ 71) × (r .delay ≤ 2))) ⌝ }
+{
+    let place = (12 * year + 5) % 19;
+    let since_leap = (year - 1) % 4;
+    let distance = 20_584_320 + 765_433 * place + 123_120 * since_leap - 1565 * year;
+    let molad_august = distance / 492_480;
+    let molad_part = distance % 492_480 / 19;
+    let past_noon = 19440 <= molad_part;
+    let august = laws::pick(past_noon, molad_august + 1, molad_august);
+    let part = molad_part - laws::pick(past_noon, 19440, 0);
+    let weekday = (august + 1 + 5 * since_leap + 3 * year) % 7;
+    Route {
+        place,
+        since_leap,
+        distance,
+        molad_august,
+        molad_part,
+        august,
+        part,
+        weekday,
+        delay: late_by(place, weekday, part),
+    }
+}
