@@ -3,6 +3,7 @@ use show::end;
 use show::number;
 use show::text;
 
+// An input that the output cannot show, and words for it.
 pub fn given(words: &[u8], input: &[u8]) {
     let answer = line::year_on_line(input);
     text(words);
@@ -11,4 +12,9 @@ pub fn given(words: &[u8], input: &[u8]) {
     number(answer.year);
     end();
     listing::print(input);
+}
+
+// An input that the output shows as it is, with no line feed.
+pub fn plain(input: &[u8]) {
+    given(input, input);
 }

@@ -6,11 +6,15 @@ mod years;
 
 fn main() {
     lines::taken();
-    lines::refused();
-    lines::lengths();
-    lines::first_line_only();
+    lines::line_feeds();
+    lines::empty();
+    lines::no_figures();
+    lines::beside_figures();
+    lines::above_127();
+    lines::too_long();
     years::ends();
     years::document();
     years::about_year_nought();
     years::kinds();
+    years::more_kinds();
 }
