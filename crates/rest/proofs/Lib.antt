@@ -1,4 +1,7 @@
+pub mod Alike
 pub mod Answered
+pub mod Answers
+pub mod Checked
 pub mod Growing
 pub mod Listed
 pub mod Passed
@@ -10,3 +13,4 @@ pub mod Spanned
 pub mod StretchOf
 pub mod Theorems
 pub mod Walk
+pub mod WholeList
