@@ -24,7 +24,7 @@ fn read_line(space: &mut [u8]) -> usize
 }
 
 fn main() {
-    // Five figures and what follows them tell the answer.
+    // Five figures and what follows them tell the answer (crate line, theorem `enough`).
     let mut space = [0u8; 6];
     let n = read_line(&mut space);
     listing::print(&space[..n]);
