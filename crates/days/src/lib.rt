@@ -26,13 +26,18 @@ pub fn out_of_range(day: u64) -> bool
     (day < FIRST_DAY) | (LAST_DAY < day)
 }
 
+// A seventh of 2 to the 25th, rounded up.
+const SEVENTH: u64 = 4_793_491;
+
+const WHOLE: u64 = 33_554_432;
+
 // A step, for numbers near the range: 1 Sunday to 7 Saturday. The division by 7 is a product and a shift.
 pub fn weekday_of(day: u64) -> u64
     requires { ⌜ day ≤ 5000000 ⌝ }
     ensures { λ r. ⌜ r ≡ Weekday·weekday day ⌝ }
 {
     let after = day + 1;
-    after - 7 * (after * 4_793_491 / 33_554_432) + 1
+    after - 7 * (after * SEVENTH / WHOLE) + 1
 }
 
 // Refusal 4 outside the range.

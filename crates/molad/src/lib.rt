@@ -12,6 +12,8 @@ mod parts;
 
 ghost use mathlib.Core.Path.{_≡_};
 ghost use Rattle.molad.specs.Answers.{moladAnswer};
+pub use months::LAST_NEW_YEAR;
+pub use months::LAST_YEAR;
 pub use months::Months;
 pub use months::months_before;
 pub use parts::Molad;
@@ -40,7 +42,7 @@ fn refused(number: u64) -> MoladAnswer
 pub fn molad(year: u64, month: u64) -> MoladAnswer
     ensures { λ r. ⌜ r ≡ moladAnswer year month ⌝ }
 {
-    if (year < 1) | (9999 < year) {
+    if (year < 1) | (LAST_YEAR < year) {
         return refused(1);
     }
     let before = months_before(year);
