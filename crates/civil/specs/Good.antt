@@ -9,8 +9,8 @@ abbrev pub day : Calendar → Date → ℕ
 day cal x = dayOf cal (x .year) (x .month) (x .day)
 
 -- A civil date is good when its year is covered, its month lies in 1..12 and its day in 1..the month's length: none of
--- the refusals 5, 6 and 7 applies (document 01). Of the years after 6239 this record asks no more than of the covered
--- ones, so that "no other good date" speaks of them too; where a year must be covered, `lastYear` stands beside it.
+-- the refusals 5, 6 and 7 applies (document 01). The last year covered is not asked here but beside this record, as
+-- `lastYear`: so "no other good date" speaks of the years after 6239 too.
 pub record Good (cal : Calendar) (x : Date) : Type 0 where
   pub first-year : firstYear ≤ x .year
   pub first-month : 1 ≤ x .month
