@@ -8,9 +8,10 @@ use lib.IntN.{ℤ}
 use Rattle.laws.proofs.One.{one-result}
 use Rattle.laws.proofs.Tests.{within}
 use Rattle.days.specs.Range.{firstDay, lastDay, outOfRange}
-use Rattle.civil.specs.Signed.{civil, raised, raisedIn}
+use Rattle.civil.specs.Signed.{covered, raised, raisedIn}
 use Rattle.civil.specs.Calendar.{Calendar, julian, gregorian, daysBefore, daysTo, dayOf}
 use Rattle.civil.specs.Date.{Date}
+use Rattle.civil.specs.Good.{day, Good}
 use Rattle.civil.specs.Steps.{IsYear, dayIn, InYear, DateIn}
 use Rattle.civil.specs.Answers.{civilDay, civilDate}
 use Rattle.civil.specs.declared.CivilDay.{CivilDay}
@@ -18,7 +19,7 @@ use Rattle.civil.specs.declared.CivilDate.{CivilDate}
 use Rattle.civil.specs.declared.Year.{Year}
 use Rattle.civil.specs.declared.YearDay.{YearDay}
 use Rattle.civil.proofs.MonthStarts.{january}
-use Rattle.civil.proofs.Dates.{Covers, Good, day, only-date}
+use Rattle.civil.proofs.Dates.{Covers, only-date}
 use Rattle.civil.proofs.Raising.{raised-is}
 
 module _ (cal : Calendar) (c : Covers cal) where
@@ -29,9 +30,9 @@ module _ (cal : Calendar) (c : Covers cal) where
 
   pub day-answer : (y : ℤ) (m d : ℕ) (x : Year) → IsYear cal (raisedIn y) x → dayIn x m d ≡ civilDay cal y m d
   unfolding dayIn civilDay raisedIn
-  day-answer y m d x is = go (civil y) refl
+  day-answer y m d x is = go (covered y) refl
     where
-      go : (t : Bool) → civil y ≡ t → dayIn x m d ≡ civilDay cal y m d
+      go : (t : Bool) → covered y ≡ t → dayIn x m d ≡ civilDay cal y m d
       go true e =
           let k = raised-is y e in
           let f = rw e at is in

@@ -36,8 +36,8 @@ rule q r h =
     (λ e. rw (ne-eqb r 0 e)))
 
 -- Centuries begun before a year.
-abbrev pub begun : ℕ → ℕ
-begun s = (s + 99) / 100
+abbrev pub centuries : ℕ → ℕ
+centuries s = (s + 99) / 100
 
 pub fours : (q r n : ℕ) → (100 * q + r + n) / 4 ≡ 25 * q + (r + n) / 4
 fours q r n =
@@ -54,20 +54,20 @@ and-true false = refl
 -- One year on: a leap day, or none.
 leap-day :
     (q r : ℕ) → r < 100 → let s = 100 * q + r in
-    cond (leapAt q r) 1 0 + begun (s + 1) + (s + 3) / 4 + (begun s + 3) / 4 ≡ begun s + (s + 1 + 3) / 4 + (begun (s + 1) + 3) / 4
+    cond (leapAt q r) 1 0 + centuries (s + 1) + (s + 3) / 4 + (centuries s + 3) / 4 ≡ centuries s + (s + 1 + 3) / 4 + (centuries (s + 1) + 3) / 4
 leap-day q r h =
     let s = 100 * q + r in
     let three : (s + 3) / 4 ≡ 25 * q + (r + 3) / 4 = fours q r 3 in
     let four : (s + 1 + 3) / 4 ≡ 25 * q + (r + 4) / 4 = let e : s + 1 + 3 ≡ s + 4 = omega arith in rw e (fours q r 4) in
     by-cases (ℕ-discrete r 0)
     (λ b.
-    let at : begun s ≡ q = omega arith in
-    let after : begun (s + 1) ≡ q + 1 = omega arith in
+    let at : centuries s ≡ q = omega arith in
+    let after : centuries (s + 1) ≡ q + 1 = omega arith in
     let one : leapAt q r ≡ divisible 4 q = rw (b, not-not (divisible 4 q)) in
     rw (at, after, three, four, one, b) (omega (arith, fourth q)))
     (λ b.
-    let at : begun s ≡ q + 1 = omega arith in
-    let after : begun (s + 1) ≡ q + 1 = omega arith in
+    let at : centuries s ≡ q + 1 = omega arith in
+    let after : centuries (s + 1) ≡ q + 1 = omega arith in
     let one : leapAt q r ≡ divisible 4 r = rw (ne-eqb r 0 b, and-true (divisible 4 r)) in
     rw (at, after, three, four, one) (omega (arith, fourth r)))
 
@@ -83,7 +83,7 @@ one-more years year leap k fours hundreds fourHundreds fours' hundreds' fourHund
 -- and 1 of 400.
 pub gregorian-years :
     (k : ℕ) → let s = firstYear + k in
-    yearsDays gregorianLeap k + 58 + begun s ≡ 365 * k + (s + 3) / 4 + (begun s + 3) / 4
+    yearsDays gregorianLeap k + 58 + centuries s ≡ 365 * k + (s + 3) / 4 + (centuries s + 3) / 4
 unfolding yearsDays
 gregorian-years zero = refl
 gregorian-years (suc k) =
@@ -92,5 +92,5 @@ gregorian-years (suc k) =
     let t = rw (← rule (s / 100) (s % 100) (omega arith), e) at (leap-day (s / 100) (s % 100) (omega arith)) in
     let f : firstYear + suc k ≡ s + 1 = omega arith in
     rw f
-    (one-more (yearsDays gregorianLeap k) (yearDays (gregorianLeap s)) (cond (gregorianLeap s) 1 0) k ((s + 3) / 4) (begun s)
-    ((begun s + 3) / 4) ((s + 1 + 3) / 4) (begun (s + 1)) ((begun (s + 1) + 3) / 4) (gregorian-years k) (year-days (gregorianLeap s)) t)
+    (one-more (yearsDays gregorianLeap k) (yearDays (gregorianLeap s)) (cond (gregorianLeap s) 1 0) k ((s + 3) / 4) (centuries s)
+    ((centuries s + 3) / 4) ((s + 1 + 3) / 4) (centuries (s + 1)) ((centuries (s + 1) + 3) / 4) (gregorian-years k) (year-days (gregorianLeap s)) t)

@@ -7,28 +7,14 @@ use native.Mathlib.Omega.{arith}
 use native.Mathlib.Decide.{ℕ-discrete, decLt}
 use borrow.Author.Tests.{lt-ltb, le-ltb}
 use Rattle.days.specs.Range.{firstDay, lastDay}
-use Rattle.civil.specs.Calendar.{Calendar, monthDays, daysBefore, yearDays, yearsDays, firstYear, daysTo, dayOf}
+use Rattle.civil.specs.Calendar.{Calendar, monthDays, daysBefore, yearDays, yearsDays, firstYear, lastYear, daysTo, dayOf}
 use Rattle.civil.specs.Date.{Date, tomorrow, daysOn, dateOf}
+use Rattle.civil.specs.Good.{day, Good, OneDate}
 use Rattle.civil.proofs.MonthStarts.{january, next-month, month-long, year-whole, months-rise, one-month}
 use Rattle.civil.proofs.Years.{next-year, years-rise}
 
--- A date from the year −3760 on whose month and day are there.
-pub record Good (cal : Calendar) (x : Date) : Type 0 where
-  pub first-year : firstYear ≤ x .year
-  pub first-month : 1 ≤ x .month
-  pub last-month : x .month ≤ 12
-  pub first-day : 1 ≤ x .day
-  pub last-day : x .day ≤ monthDays (cal .leap (x .year)) (x .month)
-
--- The raised year of 6239.
-abbrev pub lastYear : ℕ
-lastYear = 10239
-
 abbrev pub to : Calendar → Date → ℕ
 to cal x = daysTo cal (x .year) (x .month) (x .day)
-
-abbrev pub day : Calendar → Date → ℕ
-day cal x = dayOf cal (x .year) (x .month) (x .day)
 
 -- What the theorems ask of a calendar: its first date is good, and the day range ends within 10,000 years.
 pub record Covers (cal : Calendar) : Type 0 where
@@ -146,13 +132,6 @@ last-year cal c j l u =
       c .last,
     ))))
     (λ p. omega arith)
-
--- Exactly one date: it is good, of a civil year, its day is j, and no other good date's is.
-pub record OneDate (cal : Calendar) (j : ℕ) : Type 0 where
-  pub good : Good cal (dateOf cal j)
-  pub last : dateOf cal j .year ≤ lastYear
-  pub counted : day cal (dateOf cal j) ≡ j
-  pub only : (x : Date) → Good cal x → day cal x ≡ j → x ≡ dateOf cal j
 
 pub one-date : (cal : Calendar) → Covers cal → (j : ℕ) → firstDay ≤ j → j ≤ lastDay → OneDate cal j
 one-date cal c j l u =

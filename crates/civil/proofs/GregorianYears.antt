@@ -13,7 +13,7 @@ use Rattle.civil.specs.Steps.{InYear}
 use Rattle.civil.specs.declared.YearDay.{YearDay}
 use Rattle.civil.proofs.MonthStarts.{january, year-days, at-most}
 use Rattle.civil.proofs.Years.{fourth}
-use Rattle.civil.proofs.Centuries.{leapAt, fourth-of, rule, begun, and-true, fours, gregorian-years}
+use Rattle.civil.proofs.Centuries.{leapAt, fourth-of, rule, centuries, and-true, fours, gregorian-years}
 use Rattle.civil.proofs.Quarters.{place, short}
 use Rattle.civil.proofs.Dates.{Covers}
 
@@ -33,7 +33,7 @@ gregorian-covers =
 -- The first day's date is 251 days into its year, so day 347,747 is the eve of 1 January −3760.
 pub gregorian-day :
     (s m d : ℕ) → firstYear ≤ s →
-    dayOf gregorian s m d + begun s ≡ 260089 + 365 * s + (s + 3) / 4 + (begun s + 3) / 4 + daysBefore (gregorianLeap s) m + d
+    dayOf gregorian s m d + centuries s ≡ 260089 + 365 * s + (s + 3) / 4 + (centuries s + 3) / 4 + daysBefore (gregorianLeap s) m + d
 unfolding dayOf daysTo
 gregorian-day s m d l =
     let e : firstYear + (s - firstYear) ≡ s = omega arith in
@@ -41,14 +41,14 @@ gregorian-day s m d l =
     omega (arith, gregorian-first)
 
 pub gregorian-eve :
-    (s : ℕ) → firstYear ≤ s → dayOf gregorian s 1 0 ≡ 260089 + 365 * s + (s + 3) / 4 + (begun s + 3) / 4 - begun s
+    (s : ℕ) → firstYear ≤ s → dayOf gregorian s 1 0 ≡ 260089 + 365 * s + (s + 3) / 4 + (centuries s + 3) / 4 - centuries s
 gregorian-eve s l =
     let f = (s + 3) / 4 in
-    let g = (begun s + 3) / 4 in
+    let g = (centuries s + 3) / 4 in
     omega (arith, gregorian-day s 1 0 l, january (gregorianLeap s))
 
 -- The leap rule by the centuries begun before the year: the year begins one itself if 100 times their number is the year.
-pub gregorian-rule : (s : ℕ) → divisible 4 s && not (eqb (100 * begun s) s && not (divisible 4 (begun s))) ≡ gregorianLeap s
+pub gregorian-rule : (s : ℕ) → divisible 4 s && not (eqb (100 * centuries s) s && not (divisible 4 (centuries s))) ≡ gregorianLeap s
 gregorian-rule s =
     let q = s / 100 in
     let r = s % 100 in
@@ -57,8 +57,8 @@ gregorian-rule s =
     let f = rw e at (fourth-of q r) in
     by-cases (ℕ-discrete r 0)
     (λ p.
-    let b : begun s ≡ q = omega arith in rw (t, f, b, eq-eqb (100 * q) s (omega arith), eq-eqb r 0 p))
-    (λ p. rw (t, f, ne-eqb (100 * begun s) s (λ z. p (omega arith)), ne-eqb r 0 p))
+    let b : centuries s ≡ q = omega arith in rw (t, f, b, eq-eqb (100 * q) s (omega arith), eq-eqb r 0 p))
+    (λ p. rw (t, f, ne-eqb (100 * centuries s) s (λ z. p (omega arith)), ne-eqb r 0 p))
 
 either : (t : Bool) → cond (not t) 1 0 + cond t 1 0 ≡ 1
 either true = refl
@@ -79,11 +79,11 @@ module _ (c a k z : ℕ) (h : k < 100) (e : 365 * k + (k + 3) / 4 + z ≡ a + co
   y = z - cond (dropped c k) 1 0
 
   abbrev Placed : Type 0
-  Placed = (365 * s + (s + 3) / 4 + (begun s + 3) / 4 + y ≡ 36524 * c + (c + 3) / 4 + a + begun s) × (y < yearDays (leapAt c k))
+  Placed = (365 * s + (s + 3) / 4 + (centuries s + 3) / 4 + y ≡ 36524 * c + (c + 3) / 4 + a + centuries s) × (y < yearDays (leapAt c k))
 
   first-of-century : k ≡ 0 → Placed
   first-of-century p =
-      let b : begun s ≡ c = omega arith in
+      let b : centuries s ≡ c = omega arith in
       let t : (s + 3) / 4 ≡ 25 * c = omega (arith, fours c k 3) in
       let m = rw p at l in
       by-cases (ℕ-discrete (c % 4) 0)
@@ -92,7 +92,7 @@ module _ (c a k z : ℕ) (h : k < 100) (e : 365 * k + (k + 3) / 4 + z ≡ a + co
 
   later : (k ≡ 0 → ⊥) → Placed
   later p =
-      let b : begun s ≡ c + 1 = omega arith in
+      let b : centuries s ≡ c + 1 = omega arith in
       let i = and-true (divisible 4 k) in
       rw (b, fours c k 3, ne-eqb k 0 p, i) (omega (arith, fourth c, either (divisible 4 c), year-days (divisible 4 k)))
 
@@ -100,11 +100,11 @@ module _ (c a k z : ℕ) (h : k < 100) (e : 365 * k + (k + 3) / 4 + z ≡ a + co
   placed = by-cases (ℕ-discrete k 0) first-of-century later
 
 -- Day n from the raised year 0 on is day y of year s.
-module _ (n s y : ℕ) (e : 365 * s + (s + 3) / 4 + (begun s + 3) / 4 + y ≡ n + begun s) where
+module _ (n s y : ℕ) (e : 365 * s + (s + 3) / 4 + (centuries s + 3) / 4 + y ≡ n + centuries s) where
   covered : y < 366 → firstDay ≤ n + 260090 → n + 260090 ≤ lastDay → (firstYear ≤ s) × (s ≤ 10239)
   covered h l u = omega arith
 
-  counted : (days first : ℕ) → days + begun s ≡ 260089 + 365 * s + (s + 3) / 4 + (begun s + 3) / 4 + first + (y + 1) → first ≡ 0 → days ≡ n + 260090
+  counted : (days first : ℕ) → days + centuries s ≡ 260089 + 365 * s + (s + 3) / 4 + (centuries s + 3) / 4 + first + (y + 1) → first ≡ 0 → days ≡ n + 260090
   counted days first f g = omega arith
 
 -- The year of a day, as the code works it out.
@@ -147,7 +147,7 @@ gregorian-in-year j l u =
     let e : 36524 * c + (c + 3) / 4 + a ≡ n = place 36524 n c r f h in
     let s = 100 * c + k in
     let y = z - cond (dropped c k) 1 0 in
-    let at : 365 * s + (s + 3) / 4 + (begun s + 3) / 4 + y ≡ n + begun s = t .0 ∙ ap (λ (x : ℕ). x + begun s) e in
+    let at : 365 * s + (s + 3) / 4 + (centuries s + 3) / 4 + y ≡ n + centuries s = t .0 ∙ ap (λ (x : ℕ). x + centuries s) e in
     let years = covered n s y at (omega (arith, t .1, at-most (leapAt c k))) (omega arith) (omega arith) in
     record {
       first-year = years .0;

@@ -7,5 +7,7 @@ pub mod Dates
 pub mod JulianYears
 pub mod GregorianYears
 pub mod Raising
+pub mod Divisible
 pub mod Answers
+pub mod RoundTrips
 pub mod Theorems

@@ -1,5 +1,5 @@
--- Stretches of w days and a quarter, one after another from a whole day on, each begun on a whole day: the Julian years,
--- of 365¼ days, and the Gregorian centuries, of 36,524¼. Stretch k begins after w k days and k / 4, rounded up.
+-- Periods of w days and a quarter, one after another from a whole day on, each begun on a whole day: the Julian years,
+-- of 365¼ days, and the Gregorian centuries, of 36,524¼. Period k begins after w k days and k / 4, rounded up.
 use mathlib.Core.Path.{_≡_}
 use mathlib.Core.Bool.{cond}
 use mathlib.Core.Logic.{by-cases}
@@ -12,12 +12,12 @@ use Rattle.civil.specs.Calendar.{divisible}
 multiple : (t k : ℕ) → 4 * t ≡ k → k % 4 ≡ 0
 multiple t k e = omega arith
 
--- Day n lies in stretch k, r quarters of a day into it.
+-- Day n lies in period k, r quarters of a day into it.
 module _ (w n k r : ℕ) (e : 4 * n ≡ (4 * w + 1) * k + r) (h : r < 4 * w + 1) where
   pub place : w * k + (k + 3) / 4 + r / 4 ≡ n
   place = omega arith
 
-  -- The first of every four stretches is a day longer.
+  -- The first of every four periods is a day longer.
   pub short : r / 4 < w + cond (divisible 4 k) 1 0
   short =
       by-cases (ℕ-discrete (k % 4) 0)

@@ -1,16 +1,19 @@
--- What holds of the two calendars: each day has exactly one date, each good date comes back from its own day, the first
--- and the last day are document 01's dates; and the days of August, as Rhodes' route counts them.
+-- What holds of the two calendars: each day has exactly one date, each good date comes back from its own day, the two
+-- public questions answer each other, the first and the last day are document 01's dates; and the days of August, as
+-- Rhodes' route counts them.
 use mathlib.Core.Path.{_≡_, refl, sym}
 use mathlib.Core.Bool.{Bool, true, false, cond}
 use Prim.Native.Nat.{ℕ, _+_, _-_, _*_, _/_, _≤_}
 use native.Mathlib.Omega.{arith}
-use lib.IntN.{pos, negsuc}
-use Rattle.days.specs.Range.{firstDay, lastDay}
-use Rattle.civil.specs.Calendar.{julian, gregorian, julianLeap, gregorianLeap, monthDays, daysBefore, firstYear, divisible, dayOf}
+use lib.IntN.{ℤ, pos, negsuc}
+use Rattle.days.specs.Range.{firstDay, lastDay, outOfRange}
+use Rattle.civil.specs.Calendar.{julian, gregorian, julianLeap, gregorianLeap, monthDays, daysBefore, firstYear, lastYear, divisible, dayOf}
 use Rattle.civil.specs.Date.{Date, dateOf}
-use Rattle.civil.specs.Answers.{civilDate}
+use Rattle.civil.specs.Good.{day, Good, OneDate}
+use Rattle.civil.specs.Answers.{civilDay, civilDate}
 use Rattle.civil.proofs.Years.{fourth}
-use Rattle.civil.proofs.Dates.{Good, day, lastYear, only-date, OneDate, one-date, comes-back}
+use Rattle.civil.proofs.Dates.{only-date, one-date, comes-back}
+use Rattle.civil.proofs.RoundTrips.{there-and-back, back-and-there}
 use Rattle.civil.proofs.JulianYears.{julian-covers, julian-day}
 use Rattle.civil.proofs.GregorianYears.{gregorian-covers, gregorian-day}
 
@@ -25,6 +28,28 @@ julian-comes-back = comes-back julian julian-covers
 
 pub gregorian-comes-back : (x : Date) → Good gregorian x → firstDay ≤ day gregorian x → dateOf gregorian (day gregorian x) ≡ x
 gregorian-comes-back = comes-back gregorian gregorian-covers
+
+-- The same of the public answers, with signed years: a day in range comes back from its date, and a date that is
+-- answered comes back from its day.
+pub julian-there-and-back :
+    (j : ℕ) → outOfRange j ≡ false → let r = civilDate julian j in
+    civilDay julian (r .year) (r .month) (r .day) ≡ record { refusal = 0; day = j }
+julian-there-and-back = there-and-back julian julian-covers
+
+pub gregorian-there-and-back :
+    (j : ℕ) → outOfRange j ≡ false → let r = civilDate gregorian j in
+    civilDay gregorian (r .year) (r .month) (r .day) ≡ record { refusal = 0; day = j }
+gregorian-there-and-back = there-and-back gregorian gregorian-covers
+
+pub julian-back-and-there :
+    (y : ℤ) (m d j : ℕ) → civilDay julian y m d ≡ record { refusal = 0; day = j } →
+    civilDate julian j ≡ record { refusal = 0; year = y; month = m; day = d }
+julian-back-and-there = back-and-there julian julian-covers
+
+pub gregorian-back-and-there :
+    (y : ℤ) (m d j : ℕ) → civilDay gregorian y m d ≡ record { refusal = 0; day = j } →
+    civilDate gregorian j ≡ record { refusal = 0; year = y; month = m; day = d }
+gregorian-back-and-there = back-and-there gregorian gregorian-covers
 
 abbrev pub date : ℕ → ℕ → ℕ → Date
 date s m d = record { year = s; month = m; day = d }

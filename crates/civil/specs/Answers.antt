@@ -5,7 +5,7 @@ use Prim.Native.Nat.{ℕ}
 use lib.IntN.{ℤ, pos}
 use Rattle.laws.specs.Runs.{outside}
 use Rattle.days.specs.Range.{outOfRange}
-use Rattle.civil.specs.Signed.{civil, raised, lowered}
+use Rattle.civil.specs.Signed.{covered, raised, lowered}
 use Rattle.civil.specs.Calendar.{Calendar, monthDays, dayOf}
 use Rattle.civil.specs.Date.{dateOf}
 use Rattle.civil.specs.declared.CivilDay.{CivilDay}
@@ -18,7 +18,7 @@ noDay n = record { refusal = n; day = 0 }
 -- 8: a good civil date whose day lies outside the range.
 unfoldable pub civilDay : Calendar → ℤ → ℕ → ℕ → CivilDay
 civilDay cal y m d =
-    cond (not (civil y)) (noDay 5)
+    cond (not (covered y)) (noDay 5)
     (cond (outside 1 12 m) (noDay 6)
     (cond (outside 1 (monthDays (cal .leap (raised y)) m) d) (noDay 7)
     (cond (outOfRange (dayOf cal (raised y) m d)) (noDay 8)

@@ -31,9 +31,12 @@ julian = record { leap = julianLeap; month = 10; day = 7 }
 abbrev pub gregorian : Calendar
 gregorian = record { leap = gregorianLeap; month = 9; day = 7 }
 
--- The raised year of −3760.
+-- The raised years of −3760 and 6239, the first and the last year covered.
 abbrev pub firstYear : ℕ
 firstYear = 240
+
+abbrev pub lastYear : ℕ
+lastYear = 10239
 
 -- The days of a month, 1 January to 12 December. There is no month 0 and none after 12.
 unfoldable pub monthDays : Bool → ℕ → ℕ

@@ -1,4 +1,4 @@
-// Signed years and raised years, the only place that handles a sign.
+// Signed years and raised years, the only place of this crate that handles a sign.
 ghost use mathlib.Core.Path.{_≡_};
 ghost use Prim.Native.Nat.{_≤_};
 ghost use Rattle.civil.specs.Signed.{raisedIn};

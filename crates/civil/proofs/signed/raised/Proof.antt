@@ -4,16 +4,16 @@ use mathlib.Core.Bool.{true}
 use mir.Syntax.{w64}
 use mir.Facts.{toZ-ofZ}
 use mir.ValLaws.{toZ-pos}
-use Rattle.civil.specs.Signed.{civil, raised, raisedIn}
+use Rattle.civil.specs.Signed.{covered, raised, raisedIn}
 use Rattle.civil.proofs.Raising.{Raised, raised-is}
 use Rattle.civil.proofs.signed.raised.Statement.{statement}
 use Rattle.civil.proofs.signed.raised.Tie as tie
 
-covered : (c : tie.Then1) → civil (c .before .args .year) ≡ true
-covered c = rw (toZ-ofZ (c .before .fits .year)) at (c .if1 .taken)
+year-covered : (c : tie.Then1) → covered (c .before .args .year) ≡ true
+year-covered c = rw (toZ-ofZ (c .before .fits .year)) at (c .if1 .taken)
 
 known : (c : tie.Then1) → Raised (c .before .args .year)
-known c = raised-is (c .before .args .year) (covered c)
+known c = raised-is (c .before .args .year) (year-covered c)
 
 pub raised-spec : {M : Type 1} → statement M
 unfolding raisedIn
@@ -27,6 +27,6 @@ raised-spec =
     (tt, record { fits = omega arith }))
     (λ c.
     let k = known c in
-    rw (toZ-ofZ (c .before .fits .year), k .sum, toZ-pos w64 (raised (c .before .args .year)) (omega arith), covered c)
+    rw (toZ-ofZ (c .before .fits .year), k .sum, toZ-pos w64 (raised (c .before .args .year)) (omega arith), year-covered c)
     (omega arith))
     (λ c. let t = rw (toZ-ofZ (c .before .fits .year)) at (c .if1 .left) in rw t (omega arith)))
