@@ -1,0 +1,3 @@
+pub mod Lines
+pub mod Enough
+pub mod Answers

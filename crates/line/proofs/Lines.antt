@@ -1,0 +1,50 @@
+-- Lines and figures: the first line as a part of the input, one more figure, and how large a number figures make.
+use mathlib.Core.Path.{_≡_, refl, sym, ap, _∙_}
+use mathlib.Core.Bool.{Bool, true, false, not, cond}
+use mathlib.Core.List.{List, [], _∷_, _++_}
+use Prim.Native.Nat.{ℕ, zero, suc, _+_, _*_, _-_, _^_, _≤_, _<_}
+use native.Mathlib.Nat.{mul-assoc, pow-suc, pow-le-pow-right}
+use native.Mathlib.Numerals.{add-one}
+use native.Mathlib.Omega.{arith}
+use borrow.Author.Tests.{not-true}
+use lib.Dec.{eqb, lit<}
+use lib.ListN.{length, take, getD, length-append}
+use Rattle.bytes.specs.Bytes.{indexOf, indexAfter}
+use Rattle.laws.specs.Runs.{outside, eachOf}
+use Rattle.laws.proofs.Tests.{within, and-left, and-right}
+use Rattle.line.specs.Line.{firstLine, figure, decimal}
+
+-- The first line ends where the first line feed stands.
+taken : (b : Bool) (byte : ℕ) (n : ℕ) (rest line : List ℕ) → take n rest ≡ line → take (indexAfter b n) (byte ∷ rest) ≡ cond b [] (byte ∷ line)
+unfolding indexAfter
+taken true byte n rest line e = refl
+taken false byte n rest line e = ap (λ (l : List ℕ). byte ∷ l) e
+
+pub to-line-feed : (input : List ℕ) → take (indexOf 10 input) input ≡ firstLine input
+unfolding indexOf firstLine
+to-line-feed [] = refl
+to-line-feed (byte ∷ rest) = taken (eqb byte 10) byte (indexOf 10 rest) rest (firstLine rest) (to-line-feed rest)
+
+-- Each byte of a line of figures is a figure.
+pub figure-at : (l : List ℕ) → eachOf l figure ≡ true → (i : ℕ) → i < length l → (48 ≤ getD l i 0) × (getD l i 0 ≤ 57)
+unfolding eachOf
+figure-at [] e i h = absurd (omega arith)
+figure-at (x ∷ l) e zero h = within 48 57 x (not-true _ (and-left _ _ e))
+figure-at (x ∷ l) e (suc i) h = figure-at l (and-right (figure x) _ e) i (omega arith)
+
+-- One figure more makes the number tenfold and adds what the figure stands for.
+pub decimal-more : (l : List ℕ) (byte : ℕ) → decimal (l ++ (byte ∷ [])) ≡ decimal l * 10 + (byte - 48)
+unfolding decimal
+decimal-more [] byte = omega arith
+decimal-more (x ∷ l) byte =
+    let n : length (l ++ (byte ∷ [])) ≡ suc (length l) = length-append l (byte ∷ []) ∙ omega arith in
+    let e : (x - 48) * 10 ^ suc (length l) ≡ (x - 48) * 10 ^ length l * 10 = rw (pow-suc 10 (length l)) (sym (mul-assoc (x - 48) (10 ^ length l) 10)) in
+    rw (n, e) (omega (arith, decimal-more l byte))
+
+-- One figure more stays below the next power of ten.
+pub below-more : (n i d : ℕ) → n < 10 ^ i → d ≤ 9 → n * 10 + d < 10 ^ (i + 1)
+below-more n i d l u = rw (add-one, pow-suc 10 i) (omega arith)
+
+-- A number of at most four figures has room for a fifth.
+pub four-figures : (n i : ℕ) → n < 10 ^ i → i ≤ 4 → n < 10000
+four-figures n i l u = let p : 10 ^ i ≤ 10000 = pow-le-pow-right (lit< tt) u in omega arith

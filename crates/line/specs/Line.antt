@@ -1,0 +1,21 @@
+-- A line of input as bytes.
+use mathlib.Core.Bool.{Bool, not, cond}
+use mathlib.Core.List.{List, [], _∷_}
+use Prim.Native.Nat.{ℕ, _+_, _*_, _-_, _^_}
+use lib.Dec.{eqb}
+use lib.ListN.{length}
+use Rattle.laws.specs.Runs.{outside}
+
+-- The first line: the bytes up to the first line feed, or all if there is none.
+unfoldable pub firstLine : List ℕ → List ℕ
+firstLine [] = []
+firstLine (byte ∷ rest) = cond (eqb byte 10) [] (byte ∷ firstLine rest)
+
+-- The figures 0 to 9 are the bytes 48 to 57.
+abbrev pub figure : ℕ → Bool
+figure byte = not (outside 48 57 byte)
+
+-- The number that figures stand for: each counts as many tens of tens as figures follow it.
+unfoldable pub decimal : List ℕ → ℕ
+decimal [] = 0
+decimal (byte ∷ rest) = (byte - 48) * 10 ^ length rest + decimal rest
