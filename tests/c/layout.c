@@ -38,7 +38,10 @@ static void written(const char *name, size_t header_size, const uint64_t *want, 
     }
 }
 
-#define AT(type, field, word) same(#type "." #field, offsetof(type, field), 8 * (word))
+/* A field is a whole word, at its place. */
+#define AT(type, field, word) \
+    (same(#type "." #field ", its place", offsetof(type, field), 8 * (word)), \
+     same(#type "." #field ", its size", sizeof((type *)0)->field, 8))
 #define WORDS(type, ...) \
     do { \
         const uint64_t want[] = {__VA_ARGS__}; \
@@ -84,6 +87,10 @@ static void large_structs(void)
     AT(bd_stretch_answer, first, 1), AT(bd_stretch_answer, length, 2), AT(bd_stretch_answer, days_left, 3);
     placed(raw_stretch(fresh(), 0));
     WORDS(bd_stretch_answer, 4, 0, 0, 0);
+
+    asking("the numbers that can be below zero");
+    same("days_left", bd_stretch(2456928).days_left < 0, 1);
+    same("year of a Julian date", bd_day_to_julian(BD_FIRST_DAY).year < 0, 1);
 }
 
 /* The header's own call, its answer lying between guard words. */
