@@ -1,12 +1,10 @@
 -- What holds of signed years and their raised years.
 use mathlib.Core.Path.{_≡_, refl}
-use mathlib.Core.Bool.{Bool, true, false, cond}
+use mathlib.Core.Bool.{true}
 use Prim.Native.Nat.{ℕ, suc, _+_, _-_, _≤_}
 use native.Mathlib.Omega.{arith}
 use borrow.Author.Tests.{leb-true, le-ltb, lt-ltb}
-use lib.Dec.{ltb}
-use lib.IntN.{ℤ, pos, negsuc, subℕ, _+ℤ_}
-use lib.Signed.{mag}
+use lib.IntN.{ℤ, pos, negsuc, _+ℤ_}
 use Rattle.laws.proofs.Tests.{and-left}
 use Rattle.civil.specs.Signed.{civil, raised, lowered}
 
@@ -29,11 +27,3 @@ lowered-raised (pos n) e =
 lowered-raised (negsuc n) e =
     let h = raised-is (negsuc n) e .low in
     let t : 4000 - suc (3999 - n) ≡ n = omega arith in rw (lt-ltb (3999 - n) 4000 (omega arith), t)
-
--- A difference is no larger than its two numbers together.
-pub sub-mag : (a b : ℕ) → mag (subℕ a b) ≤ a + b
-sub-mag a b = go (ltb a b) _ _ _ (omega arith) (omega arith)
-  where
-    go : (t : Bool) (x y n : ℕ) → x ≤ n → y ≤ n → mag (cond t (negsuc x) (pos y)) ≤ n
-    go true x y n p q = p
-    go false x y n p q = q

@@ -1,4 +1,7 @@
 // What is a day number: the range, and the weekday.
+//
+// A day number is a Julian Day Number, J: the days of all calendars in one count. A Hebrew day begins at 18:00 and has the
+// J of the civil day that holds its daylight. The range is that of the Hebrew years 1 to 9999.
 ghost use mathlib.Core.Path.{_≡_};
 ghost use Prim.Native.Nat.{_<_, _≤_};
 ghost use Rattle.days.specs.Range.{outOfRange};
@@ -23,12 +26,18 @@ pub fn out_of_range(day: u64) -> bool
     (day < FIRST_DAY) | (LAST_DAY < day)
 }
 
-// A step, for numbers near the range: 1 Sunday to 7 Saturday.
+// A seventh of 2 to the 25th, rounded up.
+const SEVENTH: u64 = 4_793_491;
+
+const WHOLE: u64 = 33_554_432;
+
+// A step, for numbers near the range: 1 Sunday to 7 Saturday. The division by 7 is a product and a shift.
 pub fn weekday_of(day: u64) -> u64
     requires { ⌜ day ≤ 5000000 ⌝ }
     ensures { λ r. ⌜ r ≡ Weekday·weekday day ⌝ }
 {
-    (day + 1) % 7 + 1
+    let after = day + 1;
+    after - 7 * (after * SEVENTH / WHOLE) + 1
 }
 
 // Refusal 4 outside the range.

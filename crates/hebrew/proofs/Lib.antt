@@ -1,4 +1,5 @@
 pub mod Answers
 pub mod Dates
 pub mod Placed
+pub mod RoundTrip
 pub mod Spanned

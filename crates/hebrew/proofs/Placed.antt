@@ -44,14 +44,7 @@ month-is len x code i =
     begun-is (daysBefore len) 13 x code (sums-row len)
     (record { some = i .low; within = i .high; from = i .from; next = λ _. omega (arith, one-more len code) })
 
--- Tevet and Shevat, and from Adar on: the months in turn.
-tevet-shevat-all : (len : ℕ) → every 4 2 (λ code. eqb (25 + code) (monthLength len code)) ≡ true
-unfolding every monthLength
-tevet-shevat-all len = refl
-
-pub tevet-shevat : (len code : ℕ) → 4 ≤ code → code ≤ 5 → 25 + code ≡ monthLength len code
-tevet-shevat len code l u = equal 4 2 (λ code. 25 + code) (monthLength len) (tevet-shevat-all len) code l (omega arith)
-
+-- From Adar on the months have 29 and 30 days in turn.
 adar-on-all : (len : ℕ) → every 7 7 (λ code. eqb (30 - code % 2) (monthLength len code)) ≡ true
 unfolding every monthLength
 adar-on-all len = refl

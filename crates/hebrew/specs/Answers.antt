@@ -3,7 +3,7 @@ use mathlib.Core.Bool.{cond}
 use Prim.Native.Nat.{ℕ, _+_, _-_}
 use Rattle.laws.specs.Runs.{outside}
 use Rattle.days.specs.Range.{outOfRange}
-use Rattle.molad.specs.Years.{leap}
+use Rattle.molad.specs.Years.{outOfYears, leap}
 use Rattle.molad.specs.Molad.{noMonth}
 use Rattle.newyear.specs.NewYear.{newYear, yearLength, yearOf}
 use Rattle.hebrew.specs.Months.{monthLength}
@@ -15,7 +15,7 @@ use Rattle.hebrew.specs.declared.HebrewDate.{HebrewDate}
 -- Refusal 1: the year lies outside 1..9999. 2: the code lies outside 1..13, or is 6 in a common year.
 unfoldable pub monthAnswer : ℕ → ℕ → MonthAnswer
 monthAnswer h code =
-    cond (outside 1 9999 h) (record { refusal = 1; days = 0 })
+    cond (outOfYears h) (record { refusal = 1; days = 0 })
     (cond (noMonth (leap h) code) (record { refusal = 2; days = 0 })
     (record { refusal = 0; days = monthLength (yearLength h) code }))
 
@@ -25,7 +25,7 @@ noDay n = record { refusal = n; day = 0 }
 -- Then refusal 3: the day lies outside 1..the month's length.
 unfoldable pub hebrewDay : ℕ → ℕ → ℕ → HebrewDay
 hebrewDay h code d =
-    cond (outside 1 9999 h) (noDay 1)
+    cond (outOfYears h) (noDay 1)
     (cond (noMonth (leap h) code) (noDay 2)
     (cond (outside 1 (monthLength (yearLength h) code) d) (noDay 3)
     (record { refusal = 0; day = dayNumber (record { year = h; month = code; day = d }) })))

@@ -25,8 +25,8 @@ pub record Good (x : Date) : Type 0 where
 unfoldable pub dayNumber : Date → ℕ
 dayNumber x = newYear (x .year) + daysBefore (yearLength (x .year)) (x .month) + (x .day - 1)
 
--- The month that holds day x of a year, counted from 0, is the last of the codes 1 to 13 that has begun. (In a common
--- year code 6 begins with code 7 and so is never the last.)
+-- The month that holds day x of a year, counted from 0: as many of the codes 1 to 13 have begun by then, and the last of
+-- them holds it. (In a common year code 6 begins with code 7, and so is never the last.)
 unfoldable pub monthOf : ℕ → ℕ → ℕ
 monthOf len x = begun (daysBefore len) 13 x
 

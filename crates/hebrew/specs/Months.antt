@@ -20,12 +20,12 @@ adarI len = cond (leb 383 len) 30 0
 
 -- Code 0 is no month: Tishri is 1. Then Tishri, Marheshvan, Kislev, Tevet, Shevat, Adar I, Adar or Adar II, Nisan, Iyar,
 -- Sivan, Tammuz, Av, Elul.
+abbrev pub monthLengths : ℕ → List ℕ
+monthLengths len =
+    0 ∷ 30 ∷ marheshvan len ∷ kislev len ∷ 29 ∷ 30 ∷ adarI len ∷ 29 ∷ 30 ∷ 29 ∷ 30 ∷ 29 ∷ 30 ∷ 29 ∷ []
+
 unfoldable pub monthLength : ℕ → ℕ → ℕ
-monthLength len code =
-    getD
-    (0 ∷ 30 ∷ marheshvan len ∷ kislev len ∷ 29 ∷ 30 ∷ adarI len ∷ 29 ∷ 30 ∷ 29 ∷ 30 ∷ 29 ∷ 30 ∷ 29 ∷ [])
-    code
-    0
+monthLength len code = getD (monthLengths len) code 0
 
 -- The days of the months before a code, added up.
 unfoldable pub daysBefore : ℕ → ℕ → ℕ

@@ -8,10 +8,9 @@ mod months;
 
 ghost use mathlib.Core.Path.{_≡_};
 ghost use Rattle.hebrew.specs.Answers.{monthAnswer, hebrewDay, hebrewDate};
-pub use date::Place;
-pub use date::date_in;
+use date::date_in;
 pub use months::days_before;
-pub use months::days_in;
+use months::days_in;
 
 #[repr(C)]
 pub struct MonthAnswer {
@@ -41,7 +40,7 @@ pub struct HebrewDate {
 pub fn month_length(year: u64, month: u64) -> MonthAnswer
     ensures { λ r. ⌜ r ≡ monthAnswer year month ⌝ }
 {
-    if (year < 1) | (9999 < year) {
+    if (year < 1) | (molad::LAST_YEAR < year) {
         return MonthAnswer {
             refusal: 1,
             days: 0,
@@ -64,7 +63,7 @@ pub fn month_length(year: u64, month: u64) -> MonthAnswer
 pub fn hebrew_to_day(year: u64, month: u64, day: u64) -> HebrewDay
     ensures { λ r. ⌜ r ≡ hebrewDay year month day ⌝ }
 {
-    if (year < 1) | (9999 < year) {
+    if (year < 1) | (molad::LAST_YEAR < year) {
         return HebrewDay { refusal: 1, day: 0 };
     }
     let span = newyear::year_span(year);

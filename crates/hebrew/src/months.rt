@@ -13,12 +13,12 @@ pub fn no_month(length: u64, month: u64) -> bool
     ((month < 1) | (13 < month)) | ((month == 6) & !(383 <= length))
 }
 
-// A step, for the codes 1 to 13.
+// The days of a month in a year of this length; a code that is no month of the year has none.
 pub fn days_in(length: u64, month: u64) -> u64
-    requires { ⌜ (1 ≤ month) × (month ≤ 13) ⌝ }
     ensures { λ r. ⌜ r ≡ monthLength length month ⌝ }
 {
     match month {
+        1 => 30,
         2 => if (length == 355) | (length == 385) {
             30
         } else {
@@ -29,10 +29,11 @@ pub fn days_in(length: u64, month: u64) -> u64
         } else {
             30
         },
+        4 => 29,
+        5 => 30,
         6 => if 383 <= length { 30 } else { 0 },
-        1 => 30,
-        4..=5 => 25 + month,
-        _ => 30 - month % 2,
+        7..=13 => 30 - month % 2,
+        _ => 0,
     }
 }
 

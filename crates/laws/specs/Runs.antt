@@ -1,4 +1,4 @@
--- Tests that the checker computes, over a run of numbers and over a table; and "x lies from a to b".
+-- Tests that the checker computes, over a run of numbers and over a table; and a range that a number lies outside.
 use mathlib.Core.Bool.{Bool, true, false, _&&_, _||_}
 use mathlib.Core.List.{List, [], _∷_}
 use Prim.Native.Nat.{ℕ, zero, suc}

@@ -1,4 +1,5 @@
-// The lemmas that several crates cite stand in specs/ and proofs/. The one piece of code is selection without a branch.
+// The lemmas that several crates cite stand in specs/ and proofs/. The one piece of code chooses
+// one of two numbers that are both at hand, so that the compiler needs no branch.
 ghost use mathlib.Core.Path.{_≡_};
 ghost use mathlib.Core.Bool.{cond};
 ghost use Prim.Native.Nat.{_+_, _≤_};

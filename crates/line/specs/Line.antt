@@ -15,7 +15,7 @@ firstLine (byte ∷ rest) = cond (eqb byte 10) [] (byte ∷ firstLine rest)
 abbrev pub figure : ℕ → Bool
 figure byte = not (outside 48 57 byte)
 
--- The number that figures stand for: each counts as many tens of tens as figures follow it.
+-- The number that figures stand for: each counts ten times as much as it would one place further right.
 unfoldable pub decimal : List ℕ → ℕ
 decimal [] = 0
 decimal (byte ∷ rest) = (byte - 48) * 10 ^ length rest + decimal rest

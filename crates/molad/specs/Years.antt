@@ -2,7 +2,14 @@
 use mathlib.Core.Bool.{Bool, cond}
 use mathlib.Core.List.{List, [], _∷_}
 use Prim.Native.Nat.{ℕ, zero, suc, _+_, _-_, _%_}
-use Rattle.laws.specs.Runs.{elem}
+use Rattle.laws.specs.Runs.{elem, outside}
+
+-- The Hebrew years covered are 1 to 9999; New Year, by either route, also takes 10,000.
+abbrev pub outOfYears : ℕ → Bool
+outOfYears h = outside 1 9999 h
+
+abbrev pub outOfNewYears : ℕ → Bool
+outOfNewYears h = outside 1 10000 h
 
 -- A year is leap when H mod 19 is one of these.
 unfoldable pub leap : ℕ → Bool

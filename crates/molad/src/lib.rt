@@ -1,5 +1,8 @@
 // When is the molad of a month, and how many months come before a year.
 //
+// A molad is the moment at which a month begins by reckoning: moladot follow each other at one even distance, the length
+// of a month, from a first one on.
+//
 // An hour has 1,080 parts, a day 25,920, and a month 765,433: 29 days and 13,753 parts. The first molad is that of
 // Tishri of year 1, on J 347,998 at 5 hours 204 parts; hours count from 18:00 the evening before. Nineteen years have
 // 235 months, seven of those years being leap, so the months before a year are a quotient by 19 and what that division
@@ -9,6 +12,8 @@ mod parts;
 
 ghost use mathlib.Core.Path.{_≡_};
 ghost use Rattle.molad.specs.Answers.{moladAnswer};
+pub use months::LAST_NEW_YEAR;
+pub use months::LAST_YEAR;
 pub use months::Months;
 pub use months::months_before;
 pub use parts::Molad;
@@ -37,7 +42,7 @@ fn refused(number: u64) -> MoladAnswer
 pub fn molad(year: u64, month: u64) -> MoladAnswer
     ensures { λ r. ⌜ r ≡ moladAnswer year month ⌝ }
 {
-    if (year < 1) | (9999 < year) {
+    if (year < 1) | (LAST_YEAR < year) {
         return refused(1);
     }
     let before = months_before(year);

@@ -3,6 +3,11 @@ ghost use mathlib.Core.Path.{_≡_};
 ghost use Prim.Native.Nat.{_≤_, _-_};
 ghost use Rattle.molad.specs.Years.{leap, monthsBefore};
 
+// The Hebrew years covered are 1 to 9999; New Year is answered for one more.
+pub const LAST_YEAR: u64 = 9_999;
+
+pub const LAST_NEW_YEAR: u64 = 10_000;
+
 pub struct Months {
     // The months before Tishri of the year.
     pub months: u64,
@@ -12,14 +17,19 @@ pub struct Months {
     pub after_leap: bool,
 }
 
-// A step, for the years 1 to 10,001.
+// A nineteenth of 2 to the 25th, rounded up.
+const NINETEENTH: u64 = 1_766_023;
+
+const WHOLE: u64 = 33_554_432;
+
+// A step, for the years 1 to 10,001. The division by 19 is a product and a shift.
 pub fn months_before(year: u64) -> Months
     requires { ⌜ (1 ≤ year) × (year ≤ 10001) ⌝ }
     ensures { λ r. ⌜ (r .months ≡ monthsBefore year) × ((r .leap ≡ leap year) × ((r .«after_leap» ≡ leap (year - 1)) × (r .months ≤ 123700))) ⌝ }
 {
     let scaled = 235 * year - 234;
-    let months = scaled / 19;
-    let left = scaled % 19;
+    let months = scaled * NINETEENTH / WHOLE;
+    let left = scaled - 19 * months;
     Months {
         months,
         leap: 12 <= left,

@@ -1,13 +1,14 @@
 -- A year's span from its New Year and the next.
 use mathlib.Core.Path.{_≡_}
-use Prim.Native.Nat.{ℕ, _+_, _-_, _≤_}
+use Prim.Native.Nat.{ℕ, _+_, _-_, _≤_, _<_}
 use native.Mathlib.Omega.{arith}
-use Rattle.newyear.specs.NewYear.{newYear, yearLength}
+use Rattle.days.specs.Range.{firstDay, lastDay}
+use Rattle.newyear.specs.NewYear.{newYear, yearLength, yearOf}
 use Rattle.newyear.specs.Spans.{Spans}
 use Rattle.newyear.specs.declared.span.Span.{Span}
 use Rattle.newyear.proofs.Lengths.{length-in}
 use Rattle.newyear.proofs.Rise.{rise-le}
-use Rattle.newyear.proofs.YearOf.{first, near}
+use Rattle.newyear.proofs.YearOf.{first, near, held}
 
 pub spans : (h : ℕ) (s : Span) → 1 ≤ h → h ≤ 9999 → s .year ≡ h → s .«new_year» ≡ newYear h → s .length ≡ newYear (h + 1) - newYear h → Spans h s
 unfolding yearLength
@@ -24,3 +25,8 @@ spans h s l u y b d =
       small = omega arith;
       measured = rw d (length-in h l (omega arith));
     }
+
+-- A day lies in the span of the year that holds it.
+pub span-holds : (j : ℕ) (s : Span) → (firstDay ≤ j) × (j ≤ lastDay) → Spans (yearOf j) s → (s .«new_year» ≤ j) × (j < s .«new_year» + s .length)
+unfolding yearLength
+span-holds j s r e = let i = held j (r .0) (r .1) in omega arith

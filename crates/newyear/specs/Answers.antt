@@ -1,11 +1,10 @@
 -- What `new_year`, `year` and `year_of_day` answer.
 use mathlib.Core.Bool.{cond}
 use Prim.Native.Nat.{ℕ, _/_, _%_}
-use Rattle.laws.specs.Runs.{outside}
 use Rattle.days.specs.Range.{outOfRange}
 use Rattle.days.specs.Weekday.{weekday}
 use Rattle.molad.specs.Units.{partsInHour}
-use Rattle.molad.specs.Years.{monthsIn}
+use Rattle.molad.specs.Years.{outOfYears, outOfNewYears, monthsIn}
 use Rattle.molad.specs.Molad.{moladDay, moladTime}
 use Rattle.newyear.specs.NewYear.{newYear, yearLength, yearOf}
 use Rattle.newyear.specs.declared.NewYearAnswer.{NewYearAnswer}
@@ -29,12 +28,12 @@ newYearOn j moladJ t =
 
 -- Refusal 1: the year lies outside 1..10,000.
 unfoldable pub newYearAnswer : ℕ → NewYearAnswer
-newYearAnswer h = cond (outside 1 10000 h) (noNewYear 1) (newYearOn (newYear h) (moladDay h 1) (moladTime h 1))
+newYearAnswer h = cond (outOfNewYears h) (noNewYear 1) (newYearOn (newYear h) (moladDay h 1) (moladTime h 1))
 
 -- Refusal 1: the year lies outside 1..9999.
 unfoldable pub yearAnswer : ℕ → YearAnswer
 yearAnswer h =
-    cond (outside 1 9999 h)
+    cond (outOfYears h)
     (record { refusal = 1; «new_year» = 0; weekday = 0; length = 0; months = 0 })
     (record { refusal = 0; «new_year» = newYear h; weekday = weekday (newYear h); length = yearLength h; months = monthsIn h })
 

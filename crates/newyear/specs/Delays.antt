@@ -1,6 +1,6 @@
 -- The four delays of New Year, as document 01 has them: the molad of Tishri falls on weekday w, 1 Sunday to 7 Saturday,
--- at time t, 0 to 25,919 parts from 18:00. They are stated for every weekday and every time: no year has a molad exactly
--- on a limit where its rule applies, so only this definition holds "at or later".
+-- at time t, 0 to 25,919 parts from 18:00. They are stated for every weekday and every time: no year from 1 to 10,000 has
+-- a molad exactly on a limit where its rule applies, so that no test over years can tell "at or later" from "later".
 use mathlib.Core.Bool.{Bool, _&&_, not, cond}
 use mathlib.Core.List.{List, [], _∷_}
 use Prim.Native.Nat.{ℕ, _+_, _%_}

@@ -14,6 +14,6 @@ newYear h = moladDay h 1 + delay (weekday (moladDay h 1)) (moladTime h 1) (leap 
 unfoldable pub yearLength : ℕ → ℕ
 yearLength h = newYear (h + 1) - newYear h
 
--- The year that holds day j is the last of the years 1 to 9999 that has begun.
+-- The year that holds day j: as many of the years 1 to 9999 have begun by then. New Years rise, so it is the last of them.
 unfoldable pub yearOf : ℕ → ℕ
 yearOf j = begun newYear 9999 j

@@ -1,7 +1,9 @@
 // On which day does a Hebrew year begin, how long is it, and which year holds a day.
 //
-// New Year is the day of the molad of Tishri, or one or two days later by the four delays. A year's length is the
-// distance to the next New Year: 353, 354 or 355 days in a common year, 383, 384 or 385 in a leap year.
+// New Year is the day of the molad of Tishri, or one or two days later. Four delays put it off: a molad at noon or later
+// goes to the next day; New Year falls on no Sunday, Wednesday or Friday; and two rules for a molad late on a Tuesday or
+// a Monday keep a year from being too long or too short. A year's length is the distance to the next New Year: 353, 354
+// or 355 days in a common year, 383, 384 or 385 in a leap year.
 mod delays;
 mod span;
 mod tishri;
@@ -11,10 +13,9 @@ ghost use Rattle.newyear.specs.Answers.{newYearAnswer, yearAnswer, yearO
 pub use delays::delay;
 pub use span::Span;
 pub use span::year_holding;
-pub use span::year_of;
+use span::year_of;
 pub use span::year_span;
-pub use tishri::Tishri;
-pub use tishri::begins;
+use tishri::begins;
 
 #[repr(C)]
 pub struct NewYearAnswer {
@@ -45,7 +46,7 @@ pub struct YearOfDayAnswer {
 pub fn new_year(year: u64) -> NewYearAnswer
     ensures { λ r. ⌜ r ≡ newYearAnswer year ⌝ }
 {
-    if (year < 1) | (10_000 < year) {
+    if (year < 1) | (molad::LAST_NEW_YEAR < year) {
         return NewYearAnswer {
             refusal: 1,
             day: 0,
@@ -59,7 +60,7 @@ pub fn new_year(year: u64) -> NewYearAnswer
     NewYearAnswer {
         refusal: 0,
         day: t.new_year,
-        weekday: days::weekday_of(t.new_year),
+        weekday: t.weekday,
         molad_day: t.molad_day,
         molad_hour: t.molad_time / 1080,
         molad_part: t.molad_time % 1080,
@@ -70,7 +71,7 @@ pub fn new_year(year: u64) -> NewYearAnswer
 pub fn year(year: u64) -> YearAnswer
     ensures { λ r. ⌜ r ≡ yearAnswer year ⌝ }
 {
-    if (year < 1) | (9999 < year) {
+    if (year < 1) | (molad::LAST_YEAR < year) {
         return YearAnswer {
             refusal: 1,
             new_year: 0,

@@ -1,33 +1,27 @@
 -- What the steps work out on the days of one year is the stretch on day numbers, for any table that passes the check.
-use mathlib.Core.Path.{_≡_, refl, sym, _∙_, ap}
-use mathlib.Core.Bool.{Bool, true, false, _&&_, _||_, cond}
+use mathlib.Core.Path.{_≡_, refl, sym, _∙_}
+use mathlib.Core.Bool.{Bool, true, false, cond}
 use mathlib.Core.List.{List}
 use mathlib.Core.Logic.{by-cases}
-use Prim.Native.Nat.{ℕ, _+_, _-_, _%_, _≤_, _<_}
+use Prim.Native.Nat.{ℕ, _+_, _-_, _≤_, _<_}
 use native.Mathlib.Omega.{arith}
 use native.Mathlib.Decide.{ℕ-discrete, decLt}
-use borrow.Author.Tests.{lt-ltb, le-ltb, le-leb, lt-leb, ltb-false}
-use lib.Dec.{eqb, ltb, leb}
-use Rattle.laws.specs.Runs.{elem}
-use Rattle.laws.specs.Search.{seek}
-use Rattle.laws.proofs.Tests.{cond-le}
-use Rattle.laws.proofs.Found.{Seek, seek-tells, seek-is, seek-none}
-use Rattle.days.specs.Range.{firstDay, lastDay, outOfRange}
+use borrow.Author.Tests.{lt-ltb, le-ltb, ltb-false}
+use lib.Dec.{ltb}
+use Rattle.days.specs.Range.{lastDay}
 use Rattle.days.specs.Weekday.{weekday}
 use Rattle.newyear.specs.NewYear.{newYear, yearLength}
-use Rattle.newyear.proofs.Lengths.{rises, length-in}
-use Rattle.newyear.proofs.Rise.{rise-le}
 use Rattle.newyear.proofs.YearOf.{last}
 use Rattle.rest.specs.Table.{restDay}
-use Rattle.rest.specs.Stretches.{daysFrom, nextRest, stretchFirst, stretchPast}
-use Rattle.rest.specs.Steps.{places, restAt, nextAt, backAt, runAt, firstFor, lengthFor}
+use Rattle.rest.specs.Stretches.{nextRest, stretchFirst, stretchPast}
+use Rattle.rest.specs.Steps.{places, nextAt, backAt, runAt, firstFor, lengthFor}
 use Rattle.rest.specs.Check.{passes}
 use Rattle.rest.specs.Answers.{noStretch, stretchOn, stretchAnswer}
 use Rattle.rest.specs.declared.table.Feast.{Feast}
-use Rattle.rest.proofs.Rows.{tishri-alike}
-use Rattle.rest.proofs.RestOfYear.{rows-good, rest-placed, rest-in-range, new-year-rests, eve-works, last-day-works, in-range}
-use Rattle.rest.proofs.StretchOf.{clash, from, around, first-is, past-is}
-use Rattle.rest.proofs.ShortRuns.{back, on}
+use Rattle.rest.proofs.RestOfYear.{rest-in-range, new-year-rests, in-range}
+use Rattle.rest.proofs.StretchOf.{from, around, first-is, past-is}
+use Rattle.rest.proofs.ShortRuns.{on}
+use Rattle.rest.proofs.Alike.{next-year, told, rests-there, next-is, back-same, back-few, on-same, on-next, back-next}
 
 module _ (table : List Feast) (ok : passes table ≡ true) (h : ℕ) (l : 1 ≤ h) (u : h ≤ 9999) where
   abbrev rest : ℕ → Bool
@@ -41,113 +35,6 @@ module _ (table : List Feast) (ok : passes table ≡ true) (h : ℕ) (l : 1 ≤ 
 
   abbrev feasts : List ℕ
   feasts = places table len
-
-  pub next-year : newYear h + len ≡ newYear (h + 1)
-  unfolding yearLength
-  next-year = omega (arith, rises h l (omega arith))
-
-  ends : newYear h + len ≤ lastDay + 1
-  ends = omega (arith, next-year, last, rise-le (h + 1) 10000 (omega arith) (omega arith) (omega arith))
-
-  placed : (d : ℕ) → newYear h ≤ d → d < newYear h + len → rest d ≡ restAt feasts w (d - newYear h)
-  placed d a b =
-      let e : newYear h + (d - newYear h) ≡ d = omega arith in
-      rw e at (rest-placed table ok h l u (d - newYear h) (omega arith))
-
-  -- The next rest day, or the next New Year.
-  module _ (x : ℕ) (d : x < len) where
-    abbrev n : ℕ
-    n = nextAt feasts w len x
-
-    told : Seek (restAt feasts w) (len - x) x n
-    unfolding nextAt
-    told = seek-tells (restAt feasts w) (len - x) x
-
-    none-before : (k : ℕ) → newYear h + x ≤ k → k < newYear h + n → rest k ≡ false
-    none-before k a b = placed k (omega arith) (omega (arith, told .high)) ∙ told .none (k - newYear h) (omega arith) (omega arith)
-
-    rests-there : n < len → rest (newYear h + n) ≡ true
-    rests-there p = rest-placed table ok h l u n p ∙ told .pass (omega arith)
-
-    pub next-is : nextRest table (newYear h + x) ≡ newYear h + n
-    unfolding nextRest
-    next-is =
-        let e = ends in
-        let t = told in
-        by-cases (decLt n len)
-        (λ p. seek-is rest (daysFrom (newYear h + x)) (newYear h + x) (newYear h + n) none-before (rests-there p) (omega arith) (omega arith))
-        (λ p.
-        let q : newYear h + n ≡ newYear (h + 1) = omega (arith, next-year) in
-        by-cases (ℕ-discrete h 9999)
-        (λ r.
-        let f : newYear (h + 1) ≡ lastDay + 1 = rw r last in
-        let z : newYear h + x + daysFrom (newYear h + x) ≡ newYear h + n = omega arith in
-        seek-none rest (daysFrom (newYear h + x)) (newYear h + x) (λ k a b. none-before k a (omega arith)) ∙ z)
-        (λ r.
-        let g = new-year-rests table ok (h + 1) (omega arith) (omega arith) in
-        let i = rest-in-range table ok (newYear (h + 1)) g in
-        seek-is rest (daysFrom (newYear h + x)) (newYear h + x) (newYear h + n) none-before (rw q g) (omega arith) (omega arith)))
-
-  -- Looking back and on, by day number and by place in the year.
-  pub at : (k y : ℕ) → newYear h + y ≡ k → y < len → rest k ≡ restAt feasts w y
-  at k y e p = rw e at (rest-placed table ok h l u y p)
-
-  back-same : (k : ℕ) → k < len → back rest (newYear h + k) ≡ backAt feasts w k
-  unfolding back backAt
-  back-same k p =
-      let eve = eve-works table ok h l (omega arith) in
-      by-cases (ℕ-discrete k 0)
-      (λ q. let e : newYear h + k - 1 ≡ newYear h - 1 = omega arith in rw (e, eve, lt-leb 1 k (omega arith)))
-      (λ q.
-      let a = at (newYear h + k - 1) (k - 1) (omega arith) (omega arith) in
-      by-cases (ℕ-discrete k 1)
-      (λ r.
-      let e : newYear h + k - 2 ≡ newYear h - 1 = omega arith in rw (a, e, eve, le-leb 1 k (omega arith), lt-leb 2 k (omega arith)))
-      (λ r.
-      let b = at (newYear h + k - 2) (k - 2) (omega arith) (omega arith) in
-      rw (a, b, le-leb 1 k (omega arith), le-leb 2 k (omega arith))))
-
-  back-few : (k : ℕ) → backAt feasts w k ≤ k
-  unfolding backAt
-  back-few k =
-      by-cases (ℕ-discrete k 0)
-      (λ q. rw (lt-leb 1 k (omega arith)) (omega arith))
-      (λ q.
-      by-cases (ℕ-discrete k 1)
-      (λ r. rw (lt-leb 2 k (omega arith)) (cond-le (leb 1 k && restAt feasts w (k - 1)) 1 0 k (omega arith) (omega arith)))
-      (λ r.
-      cond-le (leb 1 k && restAt feasts w (k - 1)) _ 0 k
-      (cond-le (leb 2 k && restAt feasts w (k - 2)) 2 1 k (omega arith) (omega arith)) (omega arith)))
-
-  pub on-same : (k : ℕ) → k < len → rest (newYear h + k) ≡ true → on rest (newYear h + k) ≡ runAt feasts w k
-  unfolding on runAt
-  on-same k p e =
-      let z = last-day-works table ok h l u in
-      by-cases (ℕ-discrete k (len - 1))
-      (λ q. absurd (clash (restAt feasts w (len - 1)) (rw q at (sym (at (newYear h + k) k refl p) ∙ e)) z))
-      (λ q.
-      let a = at (newYear h + k + 1) (k + 1) (omega arith) (omega arith) in
-      by-cases (decLt (k + 2) len)
-      (λ r. rw (a, at (newYear h + k + 2) (k + 2) (omega arith) r))
-      (λ r. let e : k + 1 ≡ len - 1 = omega arith in rw (a, e, z)))
-
-  -- The run that the next New Year begins, from this year's places and weekday counted on.
-  module _ (more : h ≤ 9998) where
-    carried : (y : ℕ) → y < 30 → rest (newYear (h + 1) + y) ≡ restAt feasts (w + len) y
-    unfolding restAt
-    carried y p =
-        let k = length-in (h + 1) (omega arith) (omega arith) in
-        let e : (weekday (newYear (h + 1)) + y) % 7 ≡ (w + len + y) % 7 = omega (arith, next-year) in
-        let t = tishri-alike table len (yearLength (h + 1)) y (rows-good table ok h l u) p in
-        rw (rest-placed table ok (h + 1) (omega arith) (omega arith) y (omega arith), e, t)
-
-    on-next : on rest (newYear (h + 1)) ≡ runAt feasts (w + len) 0
-    unfolding on runAt
-    on-next = rw (carried 1 (omega arith), carried 2 (omega arith))
-
-    back-next : back rest (newYear (h + 1)) ≡ 0
-    unfolding back
-    back-next = rw (eve-works table ok (h + 1) (omega arith) (omega arith))
 
   -- The answer for day x of the year.
   module _ (x : ℕ) (d : x < len) where
@@ -166,17 +53,17 @@ module _ (table : List Feast) (ok : passes table ≡ true) (h : ℕ) (l : 1 ≤ 
     -- Where a rest day is left in the year.
     module _ (p : next < len) where
       there : rest (newYear h + next) ≡ true
-      there = rests-there x d p
+      there = rests-there table ok h l u x d p
 
       few : backAt feasts w next ≤ next
-      few = back-few next
+      few = back-few table ok h l u next
 
       first-here : firstFor feasts w len x ≡ next - backAt feasts w next
       unfolding firstFor
       first-here = rw (lt-ltb next len p)
 
       from-here : from table ok (newYear h + next) there ≡ first
-      from-here = rw (back-same next p, first-here) (omega (arith, few))
+      from-here = rw (back-same table ok h l u next p, first-here) (omega (arith, few))
 
       past-here : from table ok (newYear h + next) there + on rest (from table ok (newYear h + next) there) ≡ past
       unfolding lengthFor
@@ -185,16 +72,16 @@ module _ (table : List Feast) (ok : passes table ≡ true) (h : ℕ) (l : 1 ≤ 
           let a = around table ok (newYear h + next) there in
           let r = a .passes (from table ok (newYear h + next) there) (omega arith) (omega (arith, a .some)) in
           let b : f < len = omega (arith, first-here, p) in
-          rw (from-here, on-same f b (rw from-here at r), lt-ltb next len p)
+          rw (from-here, on-same table ok h l u f b (rw from-here at r), lt-ltb next len p)
 
     -- Where none is left: the next New Year, or the end of the range.
     module _ (p : len ≤ next) where
       next-len : next ≡ len
-      next-len = omega (arith, told x d .high)
+      next-len = omega (arith, told table ok h l u x d .high)
 
       first-next : first ≡ newYear (h + 1)
       unfolding firstFor
-      first-next = rw (le-ltb next len p) next-year
+      first-next = rw (le-ltb next len p) (next-year table ok h l u)
 
       length-next : lengthFor feasts w len x ≡ runAt feasts (w + len) 0
       unfolding lengthFor
@@ -202,13 +89,13 @@ module _ (table : List Feast) (ok : passes table ≡ true) (h : ℕ) (l : 1 ≤ 
 
     late : ltb lastDay (nextRest table j) ≡ ltb lastDay first
     late =
-        rw (next-is x d)
+        rw (next-is table ok h l u x d)
         (by-cases (decLt next len)
         (λ p.
         let r = rest-in-range table ok (newYear h + next) (there p) in
         let f = first-here p in rw (le-ltb lastDay (newYear h + next) (omega arith), le-ltb lastDay first (omega arith)))
         (λ p.
-        let e : newYear h + next ≡ newYear (h + 1) = omega (arith, next-year, next-len (omega arith)) in rw (e, first-next (omega arith))))
+        let e : newYear h + next ≡ newYear (h + 1) = omega (arith, (next-year table ok h l u), next-len (omega arith)) in rw (e, first-next (omega arith))))
 
     abbrev Right : Type 0
     Right = (stretchFirst table j ≡ first) × (stretchPast table j ≡ past)
@@ -217,17 +104,17 @@ module _ (table : List Feast) (ok : passes table ≡ true) (h : ℕ) (l : 1 ≤ 
     right q =
         by-cases (decLt next len)
         (λ p.
-        let e = next-is x d in
+        let e = next-is table ok h l u x d in
         (first-is table ok j (newYear h + next) e (there p) ∙ from-here p, past-is table ok j (newYear h + next) e (there p) ∙ past-here p))
         (λ p.
         let f = first-next (omega arith) in
         let more : h ≤ 9998 =
         by-cases (ℕ-discrete h 9999) (λ r. let z : newYear (h + 1) ≡ lastDay + 1 = rw r last in omega arith) (λ r. omega arith) in
         let g = new-year-rests table ok (h + 1) (omega arith) (omega arith) in
-        let e : nextRest table j ≡ newYear (h + 1) = next-is x d ∙ omega (arith, next-year, next-len (omega arith)) in
-        let z : from table ok (newYear (h + 1)) g ≡ newYear (h + 1) = rw (back-next more) (omega arith) in (
+        let e : nextRest table j ≡ newYear (h + 1) = next-is table ok h l u x d ∙ omega (arith, (next-year table ok h l u), next-len (omega arith)) in
+        let z : from table ok (newYear (h + 1)) g ≡ newYear (h + 1) = rw (back-next table ok h l u more) (omega arith) in (
           first-is table ok j (newYear (h + 1)) e g ∙ z ∙ sym f,
-          past-is table ok j (newYear (h + 1)) e g ∙ rw (z, on-next more, f, length-next (omega arith)),
+          past-is table ok j (newYear (h + 1)) e g ∙ rw (z, on-next table ok h l u more, f, length-next (omega arith)),
         ))
 
     pub worked-out : stretchAnswer table j ≡ cond (ltb lastDay first) (noStretch 9) (stretchOn j first past)

@@ -1,8 +1,12 @@
+pub mod Alike
 pub mod Answered
+pub mod Answers
+pub mod Checked
 pub mod Growing
 pub mod Listed
 pub mod Passed
 pub mod Places
+pub mod Promised
 pub mod RestOfYear
 pub mod Rows
 pub mod ShortRuns
@@ -10,3 +14,4 @@ pub mod Spanned
 pub mod StretchOf
 pub mod Theorems
 pub mod Walk
+pub mod WholeList

@@ -25,7 +25,7 @@ use Rattle.rest.proofs.RestOfYear.{eve-works, rows-good, no-four, rest-
 use Rattle.rest.proofs.Rows.{GoodRow, good-row, good-rows}
 use Rattle.rest.proofs.ShortRuns.{on, run-on}
 use Rattle.rest.proofs.StretchOf.{ends-in-range}
-use Rattle.rest.proofs.Answered.{at, on-same}
+use Rattle.rest.proofs.Alike.{at, on-same}
 
 -- A stretch that begins on a day has as many days as one finds by looking on.
 module _ (table : List Feast) (ok : passes table ≡ true) where

@@ -5,9 +5,9 @@ use Prim.Native.Nat.{ℕ, _-_, _/_}
 use lib.Dec.{ltb}
 use lib.IntN.{ℤ, pos, subℕ}
 use lib.ListN.{length}
-use Rattle.laws.specs.Runs.{outside}
 use Rattle.laws.specs.Buffer.{overwrite}
 use Rattle.days.specs.Range.{lastDay, outOfRange}
+use Rattle.molad.specs.Years.{outOfYears}
 use Rattle.rest.specs.Table.{restDays}
 use Rattle.rest.specs.Stretches.{nextRest, stretchFirst, stretchPast, stretchRows}
 use Rattle.rest.specs.declared.table.Feast.{Feast}
@@ -32,13 +32,13 @@ stretchAnswer table j =
 -- answer tells how many entries are wanted. Else it tells the count.
 unfoldable pub listAnswer : ℕ → List ℕ → List ℕ → ℕ → ListAnswer
 listAnswer h buffer list count =
-    cond (outside 1 9999 h) (record { refusal = 1; count = 0 })
+    cond (outOfYears h) (record { refusal = 1; count = 0 })
     (cond (ltb (length buffer) (length list)) (record { refusal = 10; count = length list })
     (record { refusal = 0; count = count }))
 
 -- A refusal leaves the buffer as it was.
 unfoldable pub listBuffer : ℕ → List ℕ → List ℕ → List ℕ
-listBuffer h buffer list = cond (outside 1 9999 h) buffer (cond (ltb (length buffer) (length list)) buffer (overwrite buffer list))
+listBuffer h buffer list = cond (outOfYears h) buffer (cond (ltb (length buffer) (length list)) buffer (overwrite buffer list))
 
 -- One entry for each rest day.
 abbrev pub restDaysAnswer : List Feast → ℕ → List ℕ → ListAnswer

@@ -1,5 +1,6 @@
-pub mod Table
-pub mod Stretches
-pub mod Check
-pub mod Steps
 pub mod Answers
+pub mod Check
+pub mod Checked
+pub mod Steps
+pub mod Stretches
+pub mod Table

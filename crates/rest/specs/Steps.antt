@@ -1,5 +1,6 @@
--- How the code works: on the days of one year, counted from 0 at New Year, which falls on weekday w. What is believed
--- stands in Table and Stretches; that these steps come to the same is proved.
+-- How the code works: on the days of one year, counted from 0 at New Year, which falls on weekday w. Day x is then a
+-- Saturday where 7 divides w + x. What is believed stands in Table and Stretches; that these steps come to the same is
+-- proved.
 use mathlib.Core.Bool.{Bool, _&&_, _||_, not, cond}
 use mathlib.Core.List.{List, [], _∷_, _++_}
 use Prim.Native.Nat.{ℕ, zero, suc, _+_, _-_, _%_}

@@ -1,23 +1,30 @@
 -- Stretches. A stretch is a longest run of rest days next to each other, within the range: `Run (restDay table)`.
 use mathlib.Core.Bool.{Bool, _&&_, not, cond}
 use mathlib.Core.List.{List, [], _∷_, _++_}
-use Prim.Native.Nat.{ℕ, zero, suc, _+_, _-_}
-use Rattle.laws.specs.Search.{seek, seekNot, runStart}
+use Prim.Native.Nat.{ℕ, zero, suc, _+_, _-_, _≤_, _<_}
+use Rattle.laws.specs.Search.{Run, seek, seekNot, runStart}
 use Rattle.days.specs.Range.{lastDay}
 use Rattle.newyear.specs.NewYear.{newYear, yearLength}
 use Rattle.rest.specs.Table.{restDay}
 use Rattle.rest.specs.declared.table.Feast.{Feast}
 
+-- Asked for a day j, the library gives the earliest stretch whose last day is that day or later.
+pub record StretchFor (table : List Feast) (j first count : ℕ) : Type 0 where
+  pub a-stretch : Run (restDay table) first count
+  pub not-over : j < first + count
+  pub earliest : (f c : ℕ) → Run (restDay table) f c → j < f + c → first ≤ f
+
+-- It is found by a search; that what is found is the stretch for the day is proved.
+
 -- The days of the range from day j on.
 abbrev pub daysFrom : ℕ → ℕ
 daysFrom j = lastDay + 1 - j
 
--- The first rest day on or after day j; the day after the range where there is none. The earliest stretch whose last day
--- is j or later is the one that this day lies in.
+-- The first rest day on or after day j; the day after the range where there is none.
 unfoldable pub nextRest : List Feast → ℕ → ℕ
 nextRest table j = seek (restDay table) (daysFrom j) j
 
--- The first day of that stretch, and the day after its last.
+-- The first day of the stretch that it lies in, and the day after that stretch's last.
 unfoldable pub stretchFirst : List Feast → ℕ → ℕ
 stretchFirst table j = runStart (restDay table) (nextRest table j)
 

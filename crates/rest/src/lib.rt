@@ -76,7 +76,7 @@ pub fn stretch(day: u64) -> StretchAnswer
 pub fn rest_days(year: u64, out: &mut [u64]) -> ListAnswer
     ensures { λ r. ⌜ (r ≡ restDaysAnswer restTable year (now (out .entry))) × (now (out .exit) ≡ restDaysBuffer restTable year (now (out .entry))) ⌝ }
 {
-    if (year < 1) | (9999 < year) {
+    if (year < 1) | (molad::LAST_YEAR < year) {
         return ListAnswer {
             refusal: 1,
             count: 0,
@@ -102,7 +102,7 @@ pub fn rest_days(year: u64, out: &mut [u64]) -> ListAnswer
 pub fn stretches(year: u64, out: &mut [u64]) -> ListAnswer
     ensures { λ r. ⌜ (r ≡ stretchesAnswer restTable year (now (out .entry))) × (now (out .exit) ≡ stretchesBuffer restTable year (now (out .entry))) ⌝ }
 {
-    if (year < 1) | (9999 < year) {
+    if (year < 1) | (molad::LAST_YEAR < year) {
         return ListAnswer {
             refusal: 1,
             count: 0,

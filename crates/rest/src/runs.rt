@@ -1,5 +1,5 @@
 // Runs of rest days, on the days of one year counted from 0: `weekday` is that of New Year, `feasts` the places of the
-// table's rows.
+// table's rows. Day x is a Saturday where 7 divides weekday + x, so that a weekday may also be counted on past 7.
 ghost use mathlib.Core.Path.{_≡_};
 ghost use Prim.Native.Nat.{_≤_};
 ghost use Rattle.laws.specs.Runs.{elem};

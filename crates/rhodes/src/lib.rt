@@ -9,16 +9,15 @@ mod steps;
 
 ghost use mathlib.Core.Path.{_≡_};
 ghost use Rattle.rhodes.specs.Answers.{rhodesAnswer};
-pub use august::day_of_august;
+use august::day_of_august;
 pub use steps::Route;
-pub use steps::late_by;
 pub use steps::route_of;
 
 // Refusal 1 for a year outside 1..10,000.
 pub fn new_year_rhodes(year: u64) -> newyear::NewYearAnswer
     ensures { λ r. ⌜ r ≡ rhodesAnswer year ⌝ }
 {
-    if (year < 1) | (10_000 < year) {
+    if (year < 1) | (molad::LAST_NEW_YEAR < year) {
         return newyear::NewYearAnswer {
             refusal: 1,
             day: 0,

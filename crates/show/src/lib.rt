@@ -1,4 +1,4 @@
-// What the cases programs print with: words, numbers and line ends on standard output; and one number for many.
+// What the programs print with: words, numbers and line ends on standard output; and one number for many.
 ghost use Prim.Native.Nat.{_<_};
 use libc::STDOUT_FILENO;
 
@@ -6,10 +6,23 @@ pub fn text(words: &[u8]) {
     io::write_all(STDOUT_FILENO, words);
 }
 
+// A number, with no blank.
+pub fn plain(n: u64) {
+    io::print_decimal(STDOUT_FILENO, n);
+}
+
 // A number, after one blank.
 pub fn number(n: u64) {
     io::write_all(STDOUT_FILENO, b" ");
-    io::print_decimal(STDOUT_FILENO, n);
+    plain(n);
+}
+
+// A number of a civil date, which has two figures.
+pub fn two_figures(n: u64) {
+    if n < 10 {
+        io::write_all(STDOUT_FILENO, b"0");
+    }
+    plain(n);
 }
 
 // A number with its sign, after one blank. The least i64 has no positive twin: one is added first, and again at the end.

@@ -37,7 +37,7 @@ hebrew-to-day-spec =
     (λ c κs. within 1 9999 (c .before .args .year) (c .if1 .left))
     (search needs)
     (λ c. rw (c .before .before .before .if1 .left, told (c .before), c .if2 .taken))
-    (λ c κs. code c)
+    (search needs)
     (λ c.
     let d = c .before in
     let s = d .before .before .before in

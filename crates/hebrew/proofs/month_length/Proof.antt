@@ -1,11 +1,10 @@
 use borrow.Author.Needs.{needs}
-use mathlib.Core.Path.{_≡_, _∙_}
+use mathlib.Core.Path.{_≡_}
 use mathlib.Core.Bool.{false}
 use Rattle.laws.proofs.Tests.{within}
 use Rattle.molad.specs.Years.{leap}
 use Rattle.molad.specs.Molad.{noMonth}
 use Rattle.hebrew.specs.Answers.{monthAnswer}
-use Rattle.hebrew.proofs.Placed.{code-range}
 use Rattle.hebrew.proofs.Spanned.{month-told}
 use Rattle.hebrew.proofs.month_length.Statement.{statement}
 use Rattle.hebrew.proofs.month_length.Tie as tie
@@ -22,7 +21,7 @@ month-length-spec =
     (λ c κs. within 1 9999 (c .before .args .year) (c .if1 .left))
     (search needs)
     (λ c. rw (c .before .before .before .if1 .left, told (c .before), c .if2 .taken))
-    (λ c κs. code-range _ _ (told (c .before) ∙ c .if2 .left))
+    (search needs)
     (λ c.
     let e = c .before in
     let s = e .before .before in

@@ -11,8 +11,7 @@ new-year-spec =
     (tie.spec
     (λ c. rw (c .if1 .taken))
     (λ c κs. within 1 10000 (c .before .args .year) (c .if1 .left))
-    (search needs)
     (λ c.
-    let t = c .before .before .before in
+    let t = c .before .before in
     let e = t .begins .ensures .0 in
-    rw (t .before .if1 .left, c .before .before .weekday-of .ensures, e .0, e .1 .0, e .1 .1 .0)))
+    rw (t .before .if1 .left, e .0, e .1 .0, e .1 .1 .0, e .1 .1 .1 .0)))

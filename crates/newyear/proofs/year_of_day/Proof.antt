@@ -1,7 +1,5 @@
 use borrow.Author.Needs.{needs}
-use mathlib.Core.Path.{_∙_, sym}
-use Rattle.laws.proofs.Tests.{within}
-use Rattle.days.specs.Range.{firstDay, lastDay}
+use Rattle.days.proofs.InRange.{in-range}
 use Rattle.newyear.specs.Answers.{yearOfDayAnswer}
 use Rattle.newyear.proofs.year_of_day.Statement.{statement}
 use Rattle.newyear.proofs.year_of_day.Tie as tie
@@ -14,5 +12,5 @@ year-of-day-spec =
     (search needs)
     (λ c. rw (← c .before .out-of-range .ensures, c .if1 .taken))
     (λ c κs.
-    let b = c .before in within firstDay lastDay (b .before .args .day) (sym (b .out-of-range .ensures) ∙ c .if1 .left))
+    let b = c .before in in-range (b .before .args .day) (b .out-of-range .ensures) (c .if1 .left))
     (λ c. rw (← c .before .before .out-of-range .ensures, c .before .if1 .left, c .year-of .ensures .0)))

@@ -1,6 +1,6 @@
 -- The answer worked out in the year that holds the day.
 use borrow.Author.Needs.{needs}
-use mathlib.Core.Path.{_≡_, refl, sym, _∙_}
+use mathlib.Core.Path.{_≡_}
 use mathlib.Core.Bool.{cond}
 use Prim.Native.Nat.{_+_, _-_, _≤_, _<_}
 use native.Mathlib.Omega.{arith}
@@ -8,10 +8,10 @@ use borrow.Author.Tests.{lt-ltb, le-ltb}
 use lib.Dec.{ltb}
 use mir.Syntax.{w64}
 use mir.Val.{toZ, ofZ}
-use Rattle.laws.proofs.Tests.{within}
 use Rattle.days.specs.Range.{firstDay, lastDay}
-use Rattle.newyear.specs.NewYear.{newYear, yearLength, yearOf}
-use Rattle.newyear.proofs.YearOf.{held}
+use Rattle.days.proofs.InRange.{in-range}
+use Rattle.newyear.specs.NewYear.{yearOf}
+use Rattle.newyear.proofs.Spanned.{span-holds}
 use Rattle.rest.specs.Table.{restTable}
 use Rattle.rest.specs.Answers.{noStretch, stretchOn, stretchAnswer}
 use Rattle.rest.proofs.Spanned.{stretch-told}
@@ -19,18 +19,13 @@ use Rattle.rest.proofs.stretch.Statement.{statement}
 use Rattle.rest.proofs.stretch.Tie as tie
 
 ranged : (c : tie.Else1) → let a = c .before .before .args in (firstDay ≤ a .day) × (a .day ≤ lastDay)
-ranged c = let b = c .before in within firstDay lastDay (b .before .args .day) (sym (b .out-of-range .ensures) ∙ c .if1 .left)
+ranged c = in-range _ (c .before .out-of-range .ensures) (c .if1 .left)
 
--- The day lies in the span.
 inside :
     (c : tie.After-year-holding) →
     let s = c .year-holding .result in
     let j = c .before .before .before .args .day in (s .«new_year» ≤ j) × (j < s .«new_year» + s .length)
-unfolding yearLength
-inside c =
-    let r = ranged (c .before) in
-    let i = held (c .before .before .before .args .day) (r .0) (r .1) in
-    let e = c .year-holding .ensures in omega arith
+inside c = span-holds _ _ (ranged (c .before)) (c .year-holding .ensures)
 
 -- What the run says of the day.
 answered :

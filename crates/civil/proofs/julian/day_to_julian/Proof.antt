@@ -1,7 +1,6 @@
 use borrow.Author.Needs.{needs}
 use mathlib.Core.Path.{_∙_, sym}
-use Rattle.laws.proofs.Tests.{within}
-use Rattle.days.specs.Range.{firstDay, lastDay}
+use Rattle.days.proofs.InRange.{in-range}
 use Rattle.civil.specs.Calendar.{julian}
 use Rattle.civil.specs.Answers.{civilDate}
 use Rattle.civil.proofs.JulianYears.{julian-covers}
@@ -21,7 +20,7 @@ day-to-julian-spec =
     rw (c .no-date .ensures, ← t .before .out-of-range .ensures, t .if1 .taken))
     (λ c κs.
     let b = c .before in
-    within firstDay lastDay (b .before .args .day) (sym (b .out-of-range .ensures) ∙ c .if1 .left))
+    in-range (b .before .args .day) (b .out-of-range .ensures) (c .if1 .left))
     (search needs)
     (λ c.
     let y = c .before in

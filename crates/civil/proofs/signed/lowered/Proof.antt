@@ -5,7 +5,7 @@ use mir.Val.{SFits}
 use mir.Facts.{toZ-ofZ}
 use mir.ValLaws.{toZ-pos}
 use Rattle.civil.specs.Signed.{lowered}
-use Rattle.civil.proofs.Raising.{sub-mag}
+use Rattle.laws.proofs.Signed.{sub-mag}
 use Rattle.civil.proofs.signed.lowered.Statement.{statement}
 use Rattle.civil.proofs.signed.lowered.Tie as tie
 

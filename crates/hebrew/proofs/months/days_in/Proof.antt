@@ -1,10 +1,11 @@
--- Each way of the match reads the table: at a single code it computes, at a range of codes by a test.
-use native.Mathlib.Omega.{arith}
-use mathlib.Core.Logic.{⊎-elim}
+-- Each way of the match reads the table: at a single code it computes, over a range of codes by a test, and beyond it.
 use borrow.Author.Needs.{needs}
 use borrow.Author.Tests.{le-leb, lt-leb}
-use Rattle.hebrew.specs.Months.{monthLength}
-use Rattle.hebrew.proofs.Placed.{tevet-shevat, adar-on}
+use mathlib.Core.Path.{_≡_, sym}
+use native.Mathlib.Omega.{arith}
+use lib.ListN.{List·getD-eq-default}
+use Rattle.hebrew.specs.Months.{monthLengths, monthLength}
+use Rattle.hebrew.proofs.Placed.{adar-on}
 use Rattle.hebrew.proofs.months.days_in.Statement.{statement}
 use Rattle.hebrew.proofs.months.days_in.Tie as tie
 
@@ -14,15 +15,15 @@ days-in-spec =
     tie.close
     (tie.spec
     (search needs)
-    (search needs)
-    (λ c. rw (c .before .match .keys1, c .if1 .taken))
-    (λ c. rw (c .before .match .keys1, c .if1 .left))
-    (λ c. rw (c .before .match .keys2, c .if2 .taken))
-    (λ c. rw (c .before .match .keys2, c .if2 .left))
-    (λ c. rw (c .before .match .keys3, le-leb _ _ (c .if3 .taken)))
-    (λ c. rw (c .before .match .keys3, lt-leb _ _ (c .if3 .left)))
+    (λ c. rw (c .match .keys1))
+    (λ c. rw (c .before .match .keys2, c .if1 .taken))
+    (λ c. rw (c .before .match .keys2, c .if1 .left))
+    (λ c. rw (c .before .match .keys3, c .if2 .taken))
+    (λ c. rw (c .before .match .keys3, c .if2 .left))
     (λ c. rw (c .match .keys4))
-    (λ c. let s = c .before .before .before in tevet-shevat (s .args .length) (s .args .month) (omega arith) (omega arith))
-    (λ c.
-    let s = c .before .before in
-    ⊎-elim (λ w. absurd (omega arith)) (λ w. adar-on (s .args .length) (s .args .month) (omega arith) (omega arith)) (c .if4 .came)))
+    (λ c. rw (c .match .keys5))
+    (λ c. rw (c .before .match .keys6, le-leb _ _ (c .if3 .taken)))
+    (λ c. rw (c .before .match .keys6, lt-leb _ _ (c .if3 .left)))
+    (λ c. let s = c .before .before .before in adar-on (s .args .length) (s .args .month) (omega arith) (omega arith))
+    (λ c. let e : c .before .before .args .month ≡ 0 = omega arith in rw e)
+    (λ c. sym (List·getD-eq-default (monthLengths (c .before .before .before .args .length)) 0 (c .if5 .left))))

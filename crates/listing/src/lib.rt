@@ -1,0 +1,78 @@
+// What the year program prints for one input.
+//
+// The first line has the year, the weekday of its New Year, its length and months, and the day, hour and part of
+// Tishri's molad. A line for each rest day follows, in the table's order: month code, day, weekday, day number and
+// Gregorian date. What is refused prints only its number.
+use show::end;
+use show::number;
+use show::plain;
+use show::signed;
+use show::text;
+use show::two_figures;
+
+fn refused(refusal: u64) {
+    text(b"refused");
+    number(refusal);
+    end();
+}
+
+fn head(year: u64, facts: newyear::YearAnswer) {
+    let tishri = molad::molad(year, 1);
+    plain(year);
+    number(facts.weekday);
+    number(facts.length);
+    number(facts.months);
+    number(tishri.day);
+    number(tishri.hour);
+    number(tishri.part);
+    end();
+}
+
+// Years print without padding, with a minus sign below zero; months and days have two figures.
+fn civil_date(date: civil::CivilDate) {
+    signed(date.year);
+    text(b"-");
+    two_figures(date.month);
+    text(b"-");
+    two_figures(date.day);
+}
+
+fn row(day: u64) {
+    let date = hebrew::day_to_hebrew(day);
+    plain(date.month);
+    number(date.day);
+    number(days::weekday(day).weekday);
+    number(day);
+    civil_date(civil::day_to_gregorian(day));
+    end();
+}
+
+fn rows(days: &[u64]) {
+    let mut i = 0;
+    while i < days.len() {
+        row(days[i]);
+        i += 1;
+    }
+}
+
+fn year(year: u64) {
+    let facts = newyear::year(year);
+    if facts.refusal != 0 {
+        refused(facts.refusal);
+        return;
+    }
+    head(year, facts);
+    let mut days = [0u64; 8];
+    rest::rest_days(year, &mut days);
+    rows(&days);
+}
+
+// The listing of the year on the input's first line, or its refusal.
+pub fn print(input: &[u8]) {
+    let asked = line::year_on_line(input);
+    if asked.refusal != 0 {
+        refused(asked.refusal);
+    } else {
+        year(asked.year);
+    }
+}
