@@ -1,13 +1,14 @@
+# shellcheck shell=bash disable=SC2034
 # Sourced. The archive is for x86-64: what compiles C and C++ for it on this machine, and what runs it.
 # On x86-64 that is the plain compiler. On another processor it is Debian's cross compiler and the toolchain's emulator,
 # which stands where `rt` itself finds it.
 
 if [ "$(uname -m)" = x86_64 ]; then
-    CC=gcc CXX=g++ CC_PACKAGE=gcc CXX_PACKAGE=g++ LINK=() EMULATOR=()
+    CC=gcc CXX=g++ CC_PACKAGE=gcc CXX_PACKAGE=g++ LIBC_PACKAGE=libc6-dev LINK=() EMULATOR=()
 else
     # a static program needs no x86-64 loader or C library on the machine that runs it
     CC=x86_64-linux-gnu-gcc CXX=x86_64-linux-gnu-g++ CC_PACKAGE=gcc-x86-64-linux-gnu CXX_PACKAGE=g++-x86-64-linux-gnu
-    LINK=(-static)
+    LIBC_PACKAGE=libc6-dev-amd64-cross LINK=(-static)
     kit=${RATTLE_HOME:-$(dirname "$(dirname "$(readlink -f "$(command -v rt)")")")}
     EMULATOR=("$kit/on/$(uname -m)/toolchain/bin/qemu-x86_64")
 fi
@@ -20,24 +21,23 @@ fail() {
 # need COMMAND PACKAGE: installs the package if the command is not there.
 need() {
     command -v "$1" >/dev/null && return
-    command -v apt-get >/dev/null || fail "$1 is missing, and there is no apt-get to install $2"
-    echo "installing $2" >&2
-    { DEBIAN_FRONTEND=noninteractive apt-get -qq install -y --no-install-recommends "$2" ||
-        { apt-get -qq update && DEBIAN_FRONTEND=noninteractive apt-get -qq install -y --no-install-recommends "$2"; }; } \
-        >/dev/null 2>&1 || fail "$1 is missing, and apt-get could not install $2"
+    install_package "$2" "$1 is missing"
     command -v "$1" >/dev/null || fail "$2 is installed and there is still no $1"
 }
 
+# The compiler, and the C library that a bare compiler package does not bring.
 need_c() {
     need "$CC" "$CC_PACKAGE"
-    # a bare compiler package brings no C library
-    echo '#include <stdio.h>' | "$CC" -fsyntax-only -x c - 2>/dev/null && return
-    if [ "$(uname -m)" = x86_64 ]; then need_headers libc6-dev; else need_headers libc6-dev-amd64-cross; fi
+    echo '#include <stdio.h>' | "$CC" -fsyntax-only -x c - 2>/dev/null || install_package "$LIBC_PACKAGE" "the C headers are missing"
 }
 
-need_headers() {
-    echo "installing $1" >&2
-    DEBIAN_FRONTEND=noninteractive apt-get -qq install -y "$1" >/dev/null 2>&1 || fail "the C headers are missing, and apt-get could not install $1"
+install_package() { # PACKAGE WHY
+    echo "installing $1: $2" >&2
+    command -v apt-get >/dev/null || fail "$2, and there is no apt-get to install $1"
+    DEBIAN_FRONTEND=noninteractive
+    export DEBIAN_FRONTEND
+    { apt-get -qq install -y "$1" || { apt-get -qq update && apt-get -qq install -y "$1"; }; } >/dev/null 2>&1 ||
+        fail "$2, and apt-get could not install $1"
 }
 
 # run_here PROGRAM [WORD...]
