@@ -6,9 +6,9 @@
  * entries are wanted. No call keeps anything, waits, allocates or stops the program; any number may be asked, and calls
  * may be made from several threads at once.
  *
- * A day is a Julian Day Number. A Hebrew day has the number of the civil day that holds its daylight; it begins at 18:00
- * the evening before. Civil years are signed and there is a year 0: 3761 BCE is -3760. Both civil calendars are carried
- * back without a break.
+ * A day is a Julian Day Number. A Hebrew day has the number of the civil day that holds its daylight; it begins at
+ * 18:00 the evening before. Civil years are signed and there is a year 0: 3761 BCE is -3760. Both civil calendars are
+ * carried back without a break.
  *
  * What a caller must still get right:
  *   - A pointer must be real, aligned for uint64_t and not NULL, also where the length given with it is 0.
