@@ -1,0 +1,28 @@
+// The C face: what the panel's own program, in C, calls.
+//
+// Each export asks the crate that owns its question, passes every number on as it came and gives that crate's answer
+// back, so its contract is that crate's own equation, and the equation's law of one result is shown there. Nothing is
+// decided here. An answer is a struct of 64-bit numbers that begins with the refusal number; a list goes into numbers
+// that the caller lends, a pointer and then how many. `include/bournedrouth.h` says the same to C.
+mod civil_dates;
+mod hebrew_dates;
+mod new_years;
+mod rest_days;
+
+pub use civil_dates::bd_day_to_gregorian;
+pub use civil_dates::bd_day_to_julian;
+pub use civil_dates::bd_gregorian_to_day;
+pub use civil_dates::bd_julian_to_day;
+pub use civil_dates::bd_weekday;
+pub use hebrew_dates::bd_day_to_hebrew;
+pub use hebrew_dates::bd_hebrew_to_day;
+pub use hebrew_dates::bd_month_length;
+pub use new_years::bd_molad;
+pub use new_years::bd_new_year;
+pub use new_years::bd_new_year_rhodes;
+pub use new_years::bd_notice;
+pub use new_years::bd_year;
+pub use new_years::bd_year_of_day;
+pub use rest_days::bd_rest_days;
+pub use rest_days::bd_stretch;
+pub use rest_days::bd_stretches;

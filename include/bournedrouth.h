@@ -1,0 +1,239 @@
+/*
+ * Bournedrouth: the fixed Hebrew calendar for the battery room, years 1 to 9999.
+ *
+ * Every call is a question with one answer. An answer is a struct whose first number is the refusal: BD_DONE (0), or
+ * why there is no answer. Every other number of a refused answer is 0, but that BD_BUFFER_TOO_SHORT also tells how many
+ * entries are wanted. No call keeps anything, waits, allocates or stops the program; any number may be asked, and calls
+ * may be made from several threads at once.
+ *
+ * A day is a Julian Day Number. A Hebrew day has the number of the civil day that holds its daylight; it begins at
+ * 18:00 the evening before. Civil years are signed and there is a year 0: 3761 BCE is -3760. Both civil calendars are
+ * carried back without a break.
+ *
+ * What a caller must still get right:
+ *   - A pointer must be real, aligned for uint64_t and not NULL, also where the length given with it is 0.
+ *   - A length must be true: at least so many numbers stand at the pointer, and nobody else uses them during the call.
+ *   - Every number is passed as 64 bits. These declarations see to that. A number that was cut before it came here
+ *     arrives as another number, and may be a good one.
+ *   - The refusal must be looked at before the rest.
+ *
+ * The archive is for x86-64 (System V calling convention).
+ */
+#ifndef BOURNEDROUTH_H
+#define BOURNEDROUTH_H
+
+#include <stddef.h>
+#include <stdint.h>
+
+#ifdef __cplusplus
+extern "C" {
+#endif
+
+/* Why there is no answer. Where several apply, the smallest is given. */
+enum bd_refusal {
+    BD_DONE = 0,                    /* there is an answer */
+    BD_BAD_YEAR = 1,                /* Hebrew year outside 1..9999 (1..10,000 for bd_new_year and bd_new_year_rhodes) */
+    BD_BAD_MONTH = 2,               /* month code outside 1..13, or BD_ADAR_I in a common year */
+    BD_BAD_DAY = 3,                 /* day outside its Hebrew month */
+    BD_DAY_OUT_OF_RANGE = 4,        /* day number outside BD_FIRST_DAY..BD_LAST_DAY */
+    BD_BAD_CIVIL_YEAR = 5,          /* civil year outside -3760..6239 */
+    BD_BAD_CIVIL_MONTH = 6,         /* civil month outside 1..12 */
+    BD_BAD_CIVIL_DAY = 7,           /* civil day outside its month */
+    BD_CIVIL_DATE_OUT_OF_RANGE = 8, /* a good civil date whose day lies outside the range */
+    BD_NO_STRETCH = 9,              /* no stretch in range ends on or after the day */
+    BD_BUFFER_TOO_SHORT = 10        /* the lent buffer has no room for the list */
+};
+
+/* The range of day numbers: 1 Tishri 1 and 29 Elul 9999. */
+#define BD_FIRST_DAY ((uint64_t)347998)
+#define BD_LAST_DAY ((uint64_t)4000075)
+
+enum bd_weekday_number {
+    BD_SUNDAY = 1,
+    BD_MONDAY = 2,
+    BD_TUESDAY = 3,
+    BD_WEDNESDAY = 4,
+    BD_THURSDAY = 5,
+    BD_FRIDAY = 6,
+    BD_SATURDAY = 7
+};
+
+/* The code of a Hebrew month. A common year has no code 6, and its Adar is code 7, as is the Adar II of a leap year. */
+enum bd_month_code {
+    BD_TISHRI = 1,
+    BD_MARHESHVAN = 2,
+    BD_KISLEV = 3,
+    BD_TEVET = 4,
+    BD_SHEVAT = 5,
+    BD_ADAR_I = 6,
+    BD_ADAR = 7,
+    BD_ADAR_II = 7,
+    BD_NISAN = 8,
+    BD_IYAR = 9,
+    BD_SIVAN = 10,
+    BD_TAMMUZ = 11,
+    BD_AV = 12,
+    BD_ELUL = 13
+};
+
+/* ---- Days and civil dates ---- */
+
+typedef struct bd_weekday_answer {
+    uint64_t refusal;
+    uint64_t weekday; /* 1 Sunday .. 7 Saturday */
+} bd_weekday_answer;
+
+typedef struct bd_civil_day {
+    uint64_t refusal;
+    uint64_t day; /* day number */
+} bd_civil_day;
+
+typedef struct bd_civil_date {
+    uint64_t refusal;
+    int64_t year; /* signed, with a year 0 */
+    uint64_t month; /* 1..12 */
+    uint64_t day; /* day of the month */
+} bd_civil_date;
+
+/* The weekday of a day number. Refusal: 4. */
+bd_weekday_answer bd_weekday(uint64_t day);
+
+/* The day number of a date of the Julian calendar. Refusals: 5, 6, 7, 8. */
+bd_civil_day bd_julian_to_day(int64_t year, uint64_t month, uint64_t day);
+
+/* The day number of a date of the Gregorian calendar. Refusals: 5, 6, 7, 8. */
+bd_civil_day bd_gregorian_to_day(int64_t year, uint64_t month, uint64_t day);
+
+/* The Julian date of a day number. Refusal: 4. */
+bd_civil_date bd_day_to_julian(uint64_t day);
+
+/* The Gregorian date of a day number. Refusal: 4. */
+bd_civil_date bd_day_to_gregorian(uint64_t day);
+
+/* ---- The molad and the years ---- */
+
+typedef struct bd_molad_answer {
+    uint64_t refusal;
+    uint64_t day; /* day number of the molad's Hebrew day */
+    uint64_t hour; /* 0..23, counted from 18:00 the evening before */
+    uint64_t part; /* 0..1079, of an hour's 1080 parts */
+} bd_molad_answer;
+
+typedef struct bd_notice_answer {
+    uint64_t refusal;
+    uint64_t day; /* day number of the molad's own Hebrew day */
+    uint64_t weekday; /* of that day */
+    uint64_t hour; /* 0..23 on the clock, counted from midnight */
+    uint64_t minute; /* 0..59 */
+    uint64_t part; /* 0..17, of a minute's 18 parts */
+} bd_notice_answer;
+
+typedef struct bd_new_year_answer {
+    uint64_t refusal;
+    uint64_t day; /* day number of 1 Tishri */
+    uint64_t weekday; /* of that day */
+    uint64_t molad_day; /* the molad of Tishri, as in bd_molad_answer */
+    uint64_t molad_hour;
+    uint64_t molad_part;
+} bd_new_year_answer;
+
+typedef struct bd_year_answer {
+    uint64_t refusal;
+    uint64_t new_year; /* day number of 1 Tishri */
+    uint64_t weekday; /* of that day */
+    uint64_t length; /* 353, 354, 355, 383, 384 or 385 days */
+    uint64_t months; /* 12 or 13 */
+} bd_year_answer;
+
+typedef struct bd_year_of_day_answer {
+    uint64_t refusal;
+    uint64_t year; /* Hebrew year */
+} bd_year_of_day_answer;
+
+/* The molad of a month. Refusals: 1, 2. */
+bd_molad_answer bd_molad(uint64_t year, uint64_t month);
+
+/* What the molad notice shows for a month: the molad on the clock, beside its own Hebrew day. Refusals: 1, 2. */
+bd_notice_answer bd_notice(uint64_t year, uint64_t month);
+
+/* The day on which a year begins, 1..10,000, and the molad of its Tishri. Refusal: 1. */
+bd_new_year_answer bd_new_year(uint64_t year);
+
+/* The same by Rhodes' closed formula, which counts no months. Refusal: 1. */
+bd_new_year_answer bd_new_year_rhodes(uint64_t year);
+
+/* The first day, the length and the number of months of a year. Refusal: 1. */
+bd_year_answer bd_year(uint64_t year);
+
+/* The Hebrew year that holds a day. Refusal: 4. */
+bd_year_of_day_answer bd_year_of_day(uint64_t day);
+
+/* ---- Hebrew dates ---- */
+
+typedef struct bd_month_answer {
+    uint64_t refusal;
+    uint64_t days; /* 29 or 30 */
+} bd_month_answer;
+
+typedef struct bd_hebrew_day {
+    uint64_t refusal;
+    uint64_t day; /* day number */
+} bd_hebrew_day;
+
+typedef struct bd_hebrew_date {
+    uint64_t refusal;
+    uint64_t year; /* Hebrew year */
+    uint64_t month; /* month code */
+    uint64_t day; /* day of the month */
+    uint64_t new_year; /* day number of the year's 1 Tishri */
+    uint64_t length; /* of the year, in days */
+    uint64_t day_of_year; /* 1 is 1 Tishri */
+} bd_hebrew_date;
+
+/* The number of days of a Hebrew month. Refusals: 1, 2. */
+bd_month_answer bd_month_length(uint64_t year, uint64_t month);
+
+/* The day number of a Hebrew date. Refusals: 1, 2, 3. */
+bd_hebrew_day bd_hebrew_to_day(uint64_t year, uint64_t month, uint64_t day);
+
+/* The Hebrew date of a day number, with its year's first day and length. Refusal: 4. */
+bd_hebrew_date bd_day_to_hebrew(uint64_t day);
+
+/* ---- Rest days and stretches ---- */
+
+typedef struct bd_stretch_answer {
+    uint64_t refusal;
+    uint64_t first; /* day number of the stretch's first day */
+    uint64_t length; /* 1, 2 or 3 days */
+    int64_t days_left; /* first day minus the day asked: -2..6, and 0 or less on a day of the stretch */
+} bd_stretch_answer;
+
+typedef struct bd_list_answer {
+    uint64_t refusal;
+    uint64_t count; /* how many were written; with BD_BUFFER_TOO_SHORT, how many entries are wanted */
+} bd_list_answer;
+
+/* Entries with room for the rest days of a year, and for the stretches of any year. */
+#define BD_REST_DAYS_ROOM 8
+#define BD_STRETCHES_ROOM 120
+
+/* The earliest stretch of rest days whose last day is the day asked or later. Refusals: 4, 9. */
+bd_stretch_answer bd_stretch(uint64_t day);
+
+/*
+ * Writes the day numbers of a year's eight rest days, in the table's order, and tells 8. Refusals: 1, 10. A refusal
+ * leaves all entries as they were, and else those beyond the list.
+ */
+bd_list_answer bd_rest_days(uint64_t year, uint64_t *out, size_t length);
+
+/*
+ * Writes first day and length of each stretch that begins in a year, rising, two entries each, and tells how many
+ * stretches. Refusals: 1, 10. A refusal leaves all entries as they were, and else those beyond the list.
+ */
+bd_list_answer bd_stretches(uint64_t year, uint64_t *out, size_t length);
+
+#ifdef __cplusplus
+}
+#endif
+
+#endif

@@ -1,0 +1,32 @@
+/* What the groups of tests share: one line a group that passed, and a stop at the first number that differs. */
+#ifndef CHECK_H
+#define CHECK_H
+
+#include <inttypes.h>
+#include <stddef.h>
+#include <stdint.h>
+
+#include <bournedrouth.h>
+
+#define COUNT(rows) (sizeof(rows) / sizeof *(rows))
+
+/* What no call may write over. */
+#define GUARD UINT64_C(0xA5C35AE1D00DBEEF)
+
+void begin(const char *group);
+void end(void);
+/* Names what the next checks ask, as `bd_molad(5762, 1)`. */
+void asking(const char *format, ...);
+/* Stops the program with a line that names the group, the question and the field unless both are the same number. */
+void same(const char *field, uint64_t got, uint64_t want);
+void same_signed(const char *field, int64_t got, int64_t want);
+
+void layout(void);
+void civil_dates(void);
+void new_years(void);
+void hebrew_dates(void);
+void rest_days(void);
+void every_year(void);
+void every_day(void);
+
+#endif

@@ -1,0 +1,178 @@
+/*
+ * Every day of the range against a walk of this file's own: three calendars turned over day by day, a weekday counted
+ * round the seven, and the runs of rest days as they come.
+ */
+#include "check.h"
+
+#include "walk.h"
+
+enum { FIRST = 347998, LAST = 4000075 };
+
+static unsigned char rests[LAST - FIRST + 2]; /* the day after the last is none */
+
+typedef struct {
+    int64_t year;
+    uint64_t month, day;
+    int gregorian;
+} civil;
+
+static uint64_t civil_month(const civil *c)
+{
+    static const unsigned char days[] = {0, 31, 28, 31, 30, 31, 30, 31, 31, 30, 31, 30, 31};
+    int leap = c->year % 4 == 0 && (!c->gregorian || c->year % 100 != 0 || c->year % 400 == 0);
+    return days[c->month] + (c->month == 2 && leap ? 1U : 0U);
+}
+
+static void turn_civil(civil *c)
+{
+    if (++c->day <= civil_month(c)) return;
+    c->day = 1;
+    if (++c->month <= 12) return;
+    c->month = 1;
+    ++c->year;
+}
+
+typedef struct {
+    uint64_t year, month, day, length;
+} hebrew;
+
+static uint64_t year_length(uint64_t year) { return new_year_of(year + 1) - new_year_of(year); }
+
+/* Days of the month, 0 for a month that the year has not. */
+static uint64_t hebrew_month(const hebrew *h)
+{
+    static const unsigned char days[] = {0, 30, 29, 30, 29, 30, 30, 29, 30, 29, 30, 29, 30, 29};
+    if (h->month == BD_MARHESHVAN && h->length % 10 == 5) return 30;
+    if (h->month == BD_KISLEV && h->length % 10 == 3) return 29;
+    if (h->month == BD_ADAR_I && !leap(h->year)) return 0;
+    return days[h->month];
+}
+
+static void turn_hebrew(hebrew *h)
+{
+    ++h->day;
+    while (h->day > hebrew_month(h)) {
+        h->day = 1;
+        if (++h->month <= 13) continue;
+        h->month = 1;
+        h->length = ++h->year <= YEARS ? year_length(h->year) : 0;
+    }
+}
+
+static const unsigned char TABLE[BD_REST_DAYS_ROOM][2] = {{1, 1},  {1, 2},  {1, 10}, {1, 15},
+                                                          {1, 22}, {8, 15}, {8, 21}, {10, 6}};
+
+/* The date's place in the table of rest days, or the table's length. */
+static size_t feast(const hebrew *h)
+{
+    size_t i = 0;
+    while (i < COUNT(TABLE) && (TABLE[i][0] != h->month || TABLE[i][1] != h->day)) ++i;
+    return i;
+}
+
+/* Keeps a year's rest days as they come, and holds the year's list against them on its last day. */
+static void kept(uint64_t day, const hebrew *h)
+{
+    static uint64_t list[BD_REST_DAYS_ROOM];
+    uint64_t out[BD_REST_DAYS_ROOM];
+    size_t place = feast(h);
+    if (place < COUNT(TABLE)) list[place] = day;
+    if (h->month != BD_ELUL || h->day != 29) return;
+    bd_list_answer got = bd_rest_days(h->year, out, COUNT(out));
+    same("refusal of the rest days", got.refusal, 0), same("count", got.count, COUNT(TABLE));
+    for (size_t i = 0; i < COUNT(TABLE); ++i) same("rest day", out[i], list[i]);
+}
+
+static void civil_day(uint64_t day, const civil *c)
+{
+    bd_civil_date date = c->gregorian ? bd_day_to_gregorian(day) : bd_day_to_julian(day);
+    same("refusal of the civil date", date.refusal, 0), same_signed("civil year", date.year, c->year);
+    same("civil month", date.month, c->month), same("civil day", date.day, c->day);
+    bd_civil_day back = c->gregorian ? bd_gregorian_to_day(c->year, c->month, c->day)
+                                     : bd_julian_to_day(c->year, c->month, c->day);
+    same("refusal of the way back", back.refusal, 0), same("day of the civil date", back.day, day);
+}
+
+static void hebrew_day(uint64_t day, const hebrew *h)
+{
+    bd_hebrew_date date = bd_day_to_hebrew(day);
+    same("refusal of the Hebrew date", date.refusal, 0), same("Hebrew year", date.year, h->year);
+    same("Hebrew month", date.month, h->month), same("Hebrew day", date.day, h->day);
+    same("new_year", date.new_year, new_year_of(h->year)), same("length", date.length, h->length);
+    same("day_of_year", date.day_of_year, day - new_year_of(h->year) + 1);
+    bd_hebrew_day back = bd_hebrew_to_day(h->year, h->month, h->day);
+    same("refusal of the way back", back.refusal, 0), same("day of the Hebrew date", back.day, day);
+    bd_month_answer month = bd_month_length(h->year, h->month);
+    same("refusal of the month", month.refusal, 0), same("days of the month", month.days, hebrew_month(h));
+    bd_year_of_day_answer year = bd_year_of_day(day);
+    same("refusal of the year", year.refusal, 0), same("year of the day", year.year, h->year);
+}
+
+/* A year's stretches, found in the days that rest, against its list. */
+static uint64_t year_lists(uint64_t year)
+{
+    uint64_t out[BD_STRETCHES_ROOM], list[BD_STRETCHES_ROOM], n = 0;
+    for (uint64_t day = new_year_of(year); day < new_year_of(year + 1); ++day) {
+        if (!rests[day - FIRST]) continue;
+        if (n > 0 && list[n - 2] + list[n - 1] == day) {
+            ++list[n - 1];
+            continue;
+        }
+        list[n++] = day;
+        list[n++] = 1;
+    }
+    asking("bd_stretches(%" PRIu64 ", out, %d)", year, BD_STRETCHES_ROOM);
+    bd_list_answer got = bd_stretches(year, out, BD_STRETCHES_ROOM);
+    same("refusal", got.refusal, 0), same("count", got.count, n / 2);
+    for (uint64_t i = 0; i < n; ++i) same("entry", out[i], list[i]);
+    return n;
+}
+
+static void stretches(void)
+{
+    uint64_t first, day = FIRST, most = 0;
+    for (uint64_t year = 1; year <= YEARS; ++year) {
+        uint64_t n = year_lists(year);
+        if (n > most) most = n;
+    }
+    asking("the most entries that a year's stretches take");
+    same("BD_STRETCHES_ROOM", BD_STRETCHES_ROOM, most);
+    for (first = FIRST; first <= LAST; ++first) {
+        uint64_t past = first;
+        while (rests[past - FIRST]) ++past;
+        if (past == first) continue;
+        for (; day < past; ++day) {
+            bd_stretch_answer got = bd_stretch(day);
+            asking("bd_stretch(%" PRIu64 ")", day);
+            same("refusal", got.refusal, 0), same("first", got.first, first), same("length", got.length, past - first);
+            same_signed("days_left", got.days_left, (int64_t)first - (int64_t)day);
+        }
+        first = past;
+    }
+    for (; day <= LAST; ++day) {
+        asking("bd_stretch(%" PRIu64 ")", day);
+        same("refusal", bd_stretch(day).refusal, BD_NO_STRETCH);
+    }
+}
+
+void every_day(void)
+{
+    civil julian = {-3760, 10, 7, 0}, gregorian = {-3760, 9, 7, 1};
+    hebrew h = {1, 1, 1, year_length(1)};
+    uint64_t weekday = BD_MONDAY;
+    begin("every day in three calendars, every rest day and stretch");
+    for (uint64_t day = FIRST; day <= LAST; ++day) {
+        asking("day %" PRIu64, day);
+        same("weekday", bd_weekday(day).weekday, weekday);
+        civil_day(day, &julian), civil_day(day, &gregorian);
+        hebrew_day(day, &h);
+        kept(day, &h);
+        rests[day - FIRST] = weekday == BD_SATURDAY || feast(&h) < COUNT(TABLE);
+        weekday = weekday == 7 ? 1 : weekday + 1;
+        turn_civil(&julian), turn_civil(&gregorian), turn_hebrew(&h);
+    }
+    asking("the day after the last");
+    same("Hebrew year", h.year, YEARS + 1);
+    stretches();
+    end();
+}

@@ -1,0 +1,130 @@
+/*
+ * The header's structs against what the archive returns.
+ *
+ * The calling convention of x86-64 gives a struct of more than two words back through a pointer that comes before the
+ * arguments. So the archive can be called with a plain array of words for the answer, with guard words around it, whatever
+ * the header says: the words that it writes are the struct's true size and order. A struct of two words comes back in two
+ * registers, and its words are those that the header's own call gives.
+ *
+ * Each question is one whose numbers all differ, so that exchanged fields show.
+ */
+#include "check.h"
+
+#include "raw.h"
+
+enum { AROUND = 8, MOST = 8 };
+
+static uint64_t room[AROUND + MOST + AROUND];
+
+static uint64_t *fresh(void)
+{
+    for (size_t i = 0; i < COUNT(room); ++i) room[i] = GUARD;
+    return room + AROUND;
+}
+
+static void placed(const uint64_t *answer)
+{
+    same("place of the answer", (uint64_t)(answer - room), AROUND);
+}
+
+/* The archive wrote `want` and no word more, and a struct of the header has as many. */
+static void written(const char *name, size_t header_size, const uint64_t *want, size_t words)
+{
+    asking("the words of %s", name);
+    same("size", header_size, 8 * words);
+    for (size_t i = 0; i < COUNT(room); ++i) {
+        int inside = i >= AROUND && i < AROUND + words;
+        same(inside ? "word" : "word around it", room[i], inside ? want[i - AROUND] : GUARD);
+    }
+}
+
+/* A field is a whole word, at its place. */
+#define AT(type, field, word) \
+    (same(#type "." #field ", its place", offsetof(type, field), 8 * (word)), \
+     same(#type "." #field ", its size", sizeof((type *)0)->field, 8))
+#define WORDS(type, ...) \
+    do { \
+        const uint64_t want[] = {__VA_ARGS__}; \
+        written(#type, sizeof(type), want, COUNT(want)); \
+    } while (0)
+
+static void large_structs(void)
+{
+    placed(raw_day_to_gregorian(fresh(), 2456928));
+    WORDS(bd_civil_date, 0, 2014, 9, 27);
+    AT(bd_civil_date, year, 1), AT(bd_civil_date, month, 2), AT(bd_civil_date, day, 3);
+    placed(raw_day_to_julian(fresh(), 348353));
+    WORDS(bd_civil_date, 0, (uint64_t)INT64_C(-3759), 9, 27);
+
+    placed(raw_molad(fresh(), 5762, 1));
+    WORDS(bd_molad_answer, 0, 2452171, 4, 106);
+    AT(bd_molad_answer, day, 1), AT(bd_molad_answer, hour, 2), AT(bd_molad_answer, part, 3);
+
+    placed(raw_notice(fresh(), 5775, 1));
+    WORDS(bd_notice_answer, 0, 2456925, 4, 8, 18, 15);
+    AT(bd_notice_answer, day, 1), AT(bd_notice_answer, weekday, 2), AT(bd_notice_answer, hour, 3);
+    AT(bd_notice_answer, minute, 4), AT(bd_notice_answer, part, 5);
+
+    placed(raw_new_year(fresh(), 5775));
+    WORDS(bd_new_year_answer, 0, 2456926, 5, 2456925, 14, 339);
+    placed(raw_new_year_rhodes(fresh(), 5775));
+    WORDS(bd_new_year_answer, 0, 2456926, 5, 2456925, 14, 339);
+    AT(bd_new_year_answer, day, 1), AT(bd_new_year_answer, weekday, 2), AT(bd_new_year_answer, molad_day, 3);
+    AT(bd_new_year_answer, molad_hour, 4), AT(bd_new_year_answer, molad_part, 5);
+
+    placed(raw_year(fresh(), 5763));
+    WORDS(bd_year_answer, 0, 2452525, 7, 385, 13);
+    AT(bd_year_answer, new_year, 1), AT(bd_year_answer, weekday, 2), AT(bd_year_answer, length, 3);
+    AT(bd_year_answer, months, 4);
+
+    placed(raw_day_to_hebrew(fresh(), 2452362));
+    WORDS(bd_hebrew_date, 0, 5762, 8, 15, 2452171, 354, 192);
+    AT(bd_hebrew_date, year, 1), AT(bd_hebrew_date, month, 2), AT(bd_hebrew_date, day, 3);
+    AT(bd_hebrew_date, new_year, 4), AT(bd_hebrew_date, length, 5), AT(bd_hebrew_date, day_of_year, 6);
+
+    placed(raw_stretch(fresh(), 2456928));
+    WORDS(bd_stretch_answer, 0, 2456926, 3, (uint64_t)INT64_C(-2));
+    AT(bd_stretch_answer, first, 1), AT(bd_stretch_answer, length, 2), AT(bd_stretch_answer, days_left, 3);
+    placed(raw_stretch(fresh(), 0));
+    WORDS(bd_stretch_answer, 4, 0, 0, 0);
+
+    asking("the numbers that can be below zero");
+    same("days_left", bd_stretch(2456928).days_left < 0, 1);
+    same("year of a Julian date", bd_day_to_julian(BD_FIRST_DAY).year < 0, 1);
+}
+
+/* The header's own call, its answer lying between guard words. */
+#define PAIR(type, field, call, number) \
+    do { \
+        struct { \
+            uint64_t before[2]; \
+            type answer; \
+            uint64_t after[2]; \
+        } kept = {{GUARD, GUARD}, {0, 0}, {GUARD, GUARD}}; \
+        kept.answer = call; \
+        asking("the words of " #type); \
+        same("size", sizeof(type), 16); \
+        AT(type, refusal, 0), AT(type, field, 1); \
+        same("refusal", kept.answer.refusal, 0); \
+        same(#field, kept.answer.field, number); \
+        same("word before it", kept.before[1], GUARD), same("word after it", kept.after[0], GUARD); \
+    } while (0)
+
+void layout(void)
+{
+    begin("sizes and offsets");
+    large_structs();
+    AT(bd_civil_date, refusal, 0), AT(bd_molad_answer, refusal, 0), AT(bd_notice_answer, refusal, 0);
+    AT(bd_new_year_answer, refusal, 0), AT(bd_year_answer, refusal, 0), AT(bd_hebrew_date, refusal, 0);
+    AT(bd_stretch_answer, refusal, 0);
+
+    uint64_t entries[BD_REST_DAYS_ROOM];
+    PAIR(bd_weekday_answer, weekday, bd_weekday(2452171), 3);
+    PAIR(bd_civil_day, day, bd_gregorian_to_day(2001, 9, 18), 2452171);
+    PAIR(bd_civil_day, day, bd_julian_to_day(2001, 9, 5), 2452171);
+    PAIR(bd_year_of_day_answer, year, bd_year_of_day(2452171), 5762);
+    PAIR(bd_month_answer, days, bd_month_length(5762, 1), 30);
+    PAIR(bd_hebrew_day, day, bd_hebrew_to_day(5762, 8, 15), 2452362);
+    PAIR(bd_list_answer, count, bd_rest_days(5762, entries, COUNT(entries)), 8);
+    end();
+}

@@ -1,0 +1,59 @@
+/* Calls every exported function of the archive on good and bad input. */
+#include <stdarg.h>
+#include <stdio.h>
+#include <stdlib.h>
+
+#include "check.h"
+
+static const char *group_name;
+static char question[120];
+static unsigned long checks;
+
+void begin(const char *group)
+{
+    group_name = group;
+    question[0] = '\0';
+    checks = 0;
+}
+
+void end(void)
+{
+    printf("C calls: %s: %lu checks\n", group_name, checks);
+    fflush(stdout);
+}
+
+void asking(const char *format, ...)
+{
+    va_list words;
+    va_start(words, format);
+    vsnprintf(question, sizeof question, format, words);
+    va_end(words);
+}
+
+void same(const char *field, uint64_t got, uint64_t want)
+{
+    ++checks;
+    if (got == want) return;
+    printf("FAILED: C calls: %s: %s: %s is %" PRIu64 " and must be %" PRIu64 "\n", group_name, question, field, got, want);
+    exit(1);
+}
+
+void same_signed(const char *field, int64_t got, int64_t want)
+{
+    ++checks;
+    if (got == want) return;
+    printf("FAILED: C calls: %s: %s: %s is %" PRId64 " and must be %" PRId64 "\n", group_name, question, field, got, want);
+    exit(1);
+}
+
+int main(void)
+{
+    layout();
+    civil_dates();
+    new_years();
+    hebrew_dates();
+    rest_days();
+    every_year();
+    every_day();
+    return 0;
+}
