@@ -1,7 +1,16 @@
 # shellcheck shell=bash disable=SC2034
-# Sourced. The archive is for x86-64: what compiles C and C++ for it on this machine, and what runs it.
+# Sourced. Archive and programs are for x86-64: what compiles C and C++ for it on this machine, and what runs it.
 # On x86-64 that is the plain compiler. On another processor it is Debian's cross compiler and the toolchain's emulator,
 # which stands where `rt` itself finds it.
+
+fail() {
+    echo "FAILED: $*" >&2
+    exit 1
+}
+
+command -v rt >/dev/null || fail "the Rattle toolchain (rt) is not on the PATH"
+kit=${RATTLE_HOME:-$(dirname "$(dirname "$(readlink -f "$(command -v rt)")")")}
+tools=$kit/on/$(uname -m)/toolchain
 
 if [ "$(uname -m)" = x86_64 ]; then
     CC=gcc CXX=g++ CC_PACKAGE=gcc CXX_PACKAGE=g++ LIBC_PACKAGE=libc6-dev LINK=() EMULATOR=()
@@ -9,14 +18,8 @@ else
     # a static program needs no x86-64 loader or C library on the machine that runs it
     CC=x86_64-linux-gnu-gcc CXX=x86_64-linux-gnu-g++ CC_PACKAGE=gcc-x86-64-linux-gnu CXX_PACKAGE=g++-x86-64-linux-gnu
     LIBC_PACKAGE=libc6-dev-amd64-cross LINK=(-static)
-    kit=${RATTLE_HOME:-$(dirname "$(dirname "$(readlink -f "$(command -v rt)")")")}
-    EMULATOR=("$kit/on/$(uname -m)/toolchain/bin/qemu-x86_64")
+    EMULATOR=("$tools/bin/qemu-x86_64")
 fi
-
-fail() {
-    echo "FAILED: $*" >&2
-    exit 1
-}
 
 # need COMMAND PACKAGE: installs the package if the command is not there.
 need() {
@@ -46,11 +49,31 @@ run_here() {
     "${EMULATOR[@]}" "$@"
 }
 
-# Leaves the archive in target/staticlib/, proved anew if a source is younger than it.
-archive() {
-    command -v rt >/dev/null || fail "the Rattle toolchain (rt) is not on the PATH"
-    ARCHIVE=target/staticlib/libpanel.a
-    if [ -f "$ARCHIVE" ] && [ -z "$(find crates crates.txt -newer "$ARCHIVE" -not -path '*/must-fail*' -print -quit)" ]; then return; fi
+# fresh FILE: it stands, and no source is younger than it.
+fresh() {
+    [ -f "$1" ] && [ -z "$(find crates crates.txt -newer "$1" -not -path '*/must-fail*' -print -quit)" ]
+}
+
+# made FILE WORD...: leaves the file, made by `rt WORD...` if it is not fresh.
+made() {
+    local file=$1 log
+    shift
+    fresh "$file" && return
     mkdir -p target
-    rt staticlib panel >target/staticlib.log 2>&1 || { cat target/staticlib.log; fail "rt staticlib panel"; }
+    log=target/made.log
+    rt "$@" >$log 2>&1 || { cat $log; fail "rt $*"; }
+    [ -f "$file" ] || fail "rt $* left no $file"
+    touch "$file"
+}
+
+# The archive of the C face.
+archive() {
+    ARCHIVE=target/staticlib/libpanel.a
+    made "$ARCHIVE" staticlib panel
+}
+
+# run_program NAME: runs a program of the repository over the toolchain's own C library, as `rt` does.
+run_program() {
+    made "target/bin/$1" check "$1"
+    run_here "$tools/lib/ld-linux-x86-64.so.2" --library-path "$tools/lib" "target/bin/$1"
 }
