@@ -30,7 +30,7 @@ returns-3 c =
     let t = le-ltb _ 8 (s .before .if2 .left) in
     let h = s .before .before .before .before .args .year in
     let e = days-told h (s .year-span .result) (s .year-span .ensures) (f .feasts .result) (f .feasts .ensures .0) in
-    (rw (o, t), rw (o, t) (rw (← e) at (d .write-days .ensures)))
+    (rw (o, t), rw (o, t, e) (d .write-days .ensures))
 
 pub rest-days-spec : {M : Type 1} → statement M
 rest-days-spec =
