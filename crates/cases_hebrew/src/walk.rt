@@ -1,23 +1,14 @@
 // All 3,652,078 days of the range, there and back, each date mixed into one number.
 ghost use Prim.Native.Nat.{_<_};
 use show::end;
+use show::mixed;
 use show::number;
 use show::text;
-
-const PRIME: u64 = 1_000_000_007;
 
 struct Walked {
     // How many days do not come back from their date.
     wrong: u64,
     sum: u64,
-}
-
-// The numbers so far as figures to the base 31, and one more.
-fn mixed(sum: u64, next: u64) -> u64
-    requires { ⌜ sum < 1000000007 ⌝ }
-    ensures { λ r. ⌜ r < 1000000007 ⌝ }
-{
-    (sum * 31 + next % PRIME) % PRIME
 }
 
 fn dated(sum: u64, date: hebrew::HebrewDate) -> u64

@@ -25,14 +25,23 @@ pub fn two_figures(n: u64) {
     plain(n);
 }
 
-// A number with its sign, after one blank. The least i64 has no positive twin: one is added first, and again at the end.
-pub fn signed(n: i64) {
+// How far a number is from 0. The least i64 has no positive twin: one is added first, and again at the end.
+pub fn magnitude(n: i64) -> u64 {
     if 0 <= n {
-        number(n as u64);
+        n as u64
     } else {
-        io::write_all(STDOUT_FILENO, b" -");
-        io::print_decimal(STDOUT_FILENO, ((0 - (n + 1)) as u64) + 1);
+        ((0 - (n + 1)) as u64) + 1
     }
+}
+
+// A number with its sign, after one blank.
+pub fn signed(n: i64) {
+    if n < 0 {
+        text(b" -");
+    } else {
+        text(b" ");
+    }
+    io::print_decimal(STDOUT_FILENO, magnitude(n));
 }
 
 pub fn end() {

@@ -30,4 +30,4 @@ day-to-hebrew-spec =
     let s = c .before .before .before in
     let e = s .year-holding .ensures in
     let b = s .before in
-    rw (← b .before .out-of-range .ensures, b .if1 .left, c .before .date-in .ensures .0, c .before .date-in .ensures .1, e .year, e .begins, e .days)))
+    rw (← b .before .out-of-range .ensures, b .if1 .left, ← e .begins, ← e .days, ← e .year, ← c .before .date-in .ensures .1, ← c .before .date-in .ensures .0)))

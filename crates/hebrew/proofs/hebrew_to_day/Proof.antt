@@ -44,7 +44,7 @@ hebrew-to-day-spec =
     rw (s .before .if1 .left, told (d .before .before), d .before .if2 .left, ← s .year-span .ensures .days, ← d .days-in .ensures, c .if3 .taken))
     (λ c κs. (c .before .before .before .before .year-span .ensures .measured, code (c .before .before)))
     (search needs)
-    (λ c. day (c .before .before) .0)
+    (λ c. let k = day (c .before .before) in omega arith)
     (λ c. let k = day (c .before .before) in search needs)
     (λ c.
     let b = c .before in

@@ -18,7 +18,7 @@ returns-2 : tie.Need-returns-2
 unfolding listAnswer listBuffer restDays
 returns-2 c =
     let o = c .before .if1 .left in
-    (rw (o, lt-ltb _ _ (c .if2 .taken)), rw (o, lt-ltb _ _ (c .if2 .taken)))
+    (rw (o, lt-ltb _ 8 (c .if2 .taken)), rw (o, lt-ltb _ 8 (c .if2 .taken)))
 
 returns-3 : tie.Need-returns-3
 unfolding listAnswer listBuffer restDays
@@ -27,10 +27,10 @@ returns-3 c =
     let f = d .before .before .before in
     let s = f .before in
     let o = s .before .before .if1 .left in
-    let t = le-ltb _ _ (s .before .if2 .left) in
+    let t = le-ltb _ 8 (s .before .if2 .left) in
     let h = s .before .before .before .before .args .year in
     let e = days-told h (s .year-span .result) (s .year-span .ensures) (f .feasts .result) (f .feasts .ensures .0) in
-    (rw (o, t), rw (o, t) (rw (← e) at (d .write-days .ensures)))
+    (rw (o, t), rw (o, t, e) (d .write-days .ensures))
 
 pub rest-days-spec : {M : Type 1} → statement M
 rest-days-spec =

@@ -49,7 +49,7 @@ unfolding stretchAnswer
 returns c = rw (← c .before .out-of-range .ensures, c .if1 .taken)
 
 returns-2 : tie.Need-returns-2
-returns-2 c = rw (answered (c .before .before .before), lt-ltb _ _ (c .if2 .taken))
+returns-2 c = rw (answered (c .before .before .before), lt-ltb lastDay _ (c .if2 .taken))
 
 returns-3 : tie.Need-returns-3
 returns-3 c =
@@ -58,7 +58,7 @@ returns-3 c =
     let t : toZ w64 (ofZ w64 (c .days-left .result)) ≡ c .days-left .result = search needs in
     let first = r .before .before .before .before .before .year-holding .result .«new_year» + r .run-for .result .first in
     let n : first + r .run-for .result .length - first ≡ r .run-for .result .length = omega arith in
-    rw (answered r, le-ltb _ _ (e .if2 .left), t, c .days-left .ensures, n)
+    rw (answered r, le-ltb lastDay _ (e .if2 .left), t, c .days-left .ensures, n)
 
 pub stretch-spec : {M : Type 1} → statement M
 stretch-spec =

@@ -32,7 +32,8 @@ unfolding listAnswer listBuffer
 returns-2 c =
     let n = counted (c .before) in
     let o = c .before .before .before .before .before .before .if1 .left in
-    (rw (o, n, lt-ltb _ _ (c .if2 .taken)), rw (o, n, lt-ltb _ _ (c .if2 .taken)))
+    let t = lt-ltb _ (c .before .entries .result) (c .if2 .taken) in
+    (rw (o, n, t), rw (o, n, t))
 
 -- The list that is written, from what is at hand.
 listed :
@@ -64,7 +65,7 @@ returns-3 c =
     let e = d .before .before .before in
     let n = e .before in
     let o = n .before .before .before .before .before .if1 .left in
-    let t = le-ltb _ _ (e .if2 .left) in
+    let t = le-ltb _ (n .entries .result) (e .if2 .left) in
     (rw (o, counted n, t), rw (o, counted n, t) (rw (← listed n) at (d .write-stretches .ensures)))
 
 pub stretches-spec : {M : Type 1} → statement M

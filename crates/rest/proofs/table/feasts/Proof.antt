@@ -1,7 +1,7 @@
 -- Turn by turn the next row's place is stored after those before it.
 use borrow.Author.Needs.{needs}
 use mathlib.Core.Path.{_≡_, refl}
-use mathlib.Core.List.{append-nil}
+use mathlib.Core.List.{List, [], _∷_, append-nil}
 use Prim.Native.Nat.{ℕ, _≤_, _-_}
 use native.Mathlib.Omega.{arith}
 use lib.ListN.{length, take}
@@ -13,6 +13,10 @@ use Rattle.rest.specs.Steps.{places}
 use Rattle.rest.proofs.Places.{place-at, places-length, places-small, row-facts}
 use Rattle.rest.proofs.table.feasts.Statement.{statement}
 use Rattle.rest.proofs.table.feasts.Tie as tie
+
+-- The array before the first turn.
+abbrev empty : List ℕ
+empty = 0 ∷ 0 ∷ 0 ∷ 0 ∷ 0 ∷ 0 ∷ 0 ∷ 0 ∷ []
 
 abbrev Inv-loop : tie.InvT-loop
 Inv-loop len at₀ i₀ at i = (i ≤ 8) × (at ≡ overwrite at₀ (take i (places restTable len)))
@@ -40,7 +44,7 @@ loop-again c =
     let len = l .before .args .length in
     let few = places-length restTable len in
     let v = rw (← c .before .days-before .ensures .0) at (place-at restTable len i (omega arith)) in
-    (omega arith, rw (← v, l .loop .inv .1) (over-take _ (places restTable len) i (omega arith) (omega arith)))
+    (omega arith, rw (l .loop .inv .1) (rw v at (over-take empty (places restTable len) i (omega arith) (omega arith))))
 
 returns : tie.Need-returns Inv-loop μ-loop
 unfolding overwrite
