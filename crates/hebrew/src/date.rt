@@ -6,7 +6,7 @@ ghost use Rattle.hebrew.specs.Months.{daysBefore};
 ghost use Rattle.hebrew.specs.Dates.{monthOf};
 use crate::months::days_before;
 
-pub struct Place {
+pub struct MonthDay {
     pub month: u64,
     pub day: u64,
 }
@@ -25,12 +25,12 @@ fn month_of(length: u64, x: u64) -> u64
 }
 
 // A step, for the six lengths.
-pub fn date_in(length: u64, x: u64) -> Place
+pub fn date_in(length: u64, x: u64) -> MonthDay
     requires { ⌜ (IsLength length) × (x < length) ⌝ }
     ensures { λ r. ⌜ (r .month ≡ monthOf length x) × (r .day ≡ x - daysBefore length (monthOf length x) + 1) ⌝ }
 {
     let month = month_of(length, x);
-    Place {
+    MonthDay {
         month,
         day: x - days_before(length, month) + 1,
     }

@@ -8,6 +8,7 @@ mod months;
 
 ghost use mathlib.Core.Path.{_≡_};
 ghost use Rattle.hebrew.specs.Answers.{monthAnswer, hebrewDay, hebrewDate};
+pub use date::MonthDay;
 use date::date_in;
 pub use months::days_before;
 use months::days_in;

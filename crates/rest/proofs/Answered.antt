@@ -17,13 +17,13 @@ use Rattle.rest.specs.Stretches.{nextRest, stretchFirst, stretchPast}
 use Rattle.rest.specs.Steps.{places, nextAt, backAt, runAt, firstFor, lengthFor}
 use Rattle.rest.specs.Check.{passes}
 use Rattle.rest.specs.Answers.{noStretch, stretchOn, stretchAnswer}
-use Rattle.rest.specs.declared.table.Feast.{Feast}
+use Rattle.hebrew.specs.declared.date.MonthDay.{MonthDay}
 use Rattle.rest.proofs.RestOfYear.{rest-in-range, new-year-rests, in-range}
 use Rattle.rest.proofs.StretchOf.{from, around, first-is, past-is}
 use Rattle.rest.proofs.ShortRuns.{on}
 use Rattle.rest.proofs.Alike.{next-year, told, rests-there, next-is, back-same, back-few, on-same, on-next, back-next}
 
-module _ (table : List Feast) (ok : passes table ≡ true) (h : ℕ) (l : 1 ≤ h) (u : h ≤ 9999) where
+module _ (table : List MonthDay) (ok : passes table ≡ true) (h : ℕ) (l : 1 ≤ h) (u : h ≤ 9999) where
   abbrev rest : ℕ → Bool
   rest = restDay table
 
@@ -33,8 +33,8 @@ module _ (table : List Feast) (ok : passes table ≡ true) (h : ℕ) (l : 1 ≤ 
   abbrev len : ℕ
   len = yearLength h
 
-  abbrev feasts : List ℕ
-  feasts = places table len
+  abbrev restPlaces : List ℕ
+  restPlaces = places table len
 
   -- The answer for day x of the year.
   module _ (x : ℕ) (d : x < len) where
@@ -42,23 +42,23 @@ module _ (table : List Feast) (ok : passes table ≡ true) (h : ℕ) (l : 1 ≤ 
     j = newYear h + x
 
     abbrev first : ℕ
-    first = newYear h + firstFor feasts w len x
+    first = newYear h + firstFor restPlaces w len x
 
     abbrev past : ℕ
-    past = first + lengthFor feasts w len x
+    past = first + lengthFor restPlaces w len x
 
     abbrev next : ℕ
-    next = nextAt feasts w len x
+    next = nextAt restPlaces w len x
 
     -- Where a rest day is left in the year.
     module _ (p : next < len) where
       there : rest (newYear h + next) ≡ true
       there = rests-there table ok h l u x d p
 
-      few : backAt feasts w next ≤ next
+      few : backAt restPlaces w next ≤ next
       few = back-few table ok h l u next
 
-      first-here : firstFor feasts w len x ≡ next - backAt feasts w next
+      first-here : firstFor restPlaces w len x ≡ next - backAt restPlaces w next
       unfolding firstFor
       first-here = rw (lt-ltb next len p)
 
@@ -68,7 +68,7 @@ module _ (table : List Feast) (ok : passes table ≡ true) (h : ℕ) (l : 1 ≤ 
       past-here : from table ok (newYear h + next) there + on rest (from table ok (newYear h + next) there) ≡ past
       unfolding lengthFor
       past-here =
-          let f = firstFor feasts w len x in
+          let f = firstFor restPlaces w len x in
           let a = around table ok (newYear h + next) there in
           let r = a .passes (from table ok (newYear h + next) there) (omega arith) (omega (arith, a .some)) in
           let b : f < len = omega (arith, first-here, p) in
@@ -83,7 +83,7 @@ module _ (table : List Feast) (ok : passes table ≡ true) (h : ℕ) (l : 1 ≤ 
       unfolding firstFor
       first-next = rw (le-ltb next len p) (next-year table ok h l u)
 
-      length-next : lengthFor feasts w len x ≡ runAt feasts (w + len) 0
+      length-next : lengthFor restPlaces w len x ≡ runAt restPlaces (w + len) 0
       unfolding lengthFor
       length-next = rw (le-ltb next len p)
 

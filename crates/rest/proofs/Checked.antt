@@ -47,10 +47,10 @@ julian-row h s m d l e = rw (newYear-quick h l, julian-years (s - 240), julian-y
 -- The stretch for day j, which lies in year h.
 stretch-row :
     (h n next j : ℕ) → 1 ≤ h → h ≤ 9999 → newYear h ≡ n → newYear (h + 1) ≡ next → n ≤ j → j < next →
-    let feasts = places restTable (next - n) in
-    let first = n + firstFor feasts (weekday n) (next - n) (j - n) in
+    let restPlaces = places restTable (next - n) in
+    let first = n + firstFor restPlaces (weekday n) (next - n) (j - n) in
     stretchAnswer restTable j
-    ≡ cond (ltb lastDay first) (noStretch 9) (stretchOn j first (first + lengthFor feasts (weekday n) (next - n) (j - n)))
+    ≡ cond (ltb lastDay first) (noStretch 9) (stretchOn j first (first + lengthFor restPlaces (weekday n) (next - n) (j - n)))
 unfolding yearLength
 stretch-row h n next j l u e f a b =
     let x : newYear h + (j - n) ≡ j = omega arith in

@@ -9,42 +9,42 @@ use native.Mathlib.Omega.{arith}
 use lib.ListN.{length, length-append}
 use Rattle.rest.specs.Steps.{beginsAt, runAt, rowsAt}
 
-module _ (feasts : List ℕ) (w j : ℕ) where
-  pub rows-yes : (k : ℕ) → beginsAt feasts w k ≡ true → rowsAt feasts w j (k + 1) ≡ rowsAt feasts w j k ++ ((j + k) ∷ runAt feasts w k ∷ [])
+module _ (restPlaces : List ℕ) (w j : ℕ) where
+  pub rows-yes : (k : ℕ) → beginsAt restPlaces w k ≡ true → rowsAt restPlaces w j (k + 1) ≡ rowsAt restPlaces w j k ++ ((j + k) ∷ runAt restPlaces w k ∷ [])
   unfolding rowsAt
   rows-yes k e = simp (add-one, e)
 
-  pub rows-no : (k : ℕ) → beginsAt feasts w k ≡ false → rowsAt feasts w j (k + 1) ≡ rowsAt feasts w j k
+  pub rows-no : (k : ℕ) → beginsAt restPlaces w k ≡ false → rowsAt restPlaces w j (k + 1) ≡ rowsAt restPlaces w j k
   unfolding rowsAt
   rows-no k e = simp (add-one, e, append-nil)
 
-  grows : (k n : ℕ) → length (rowsAt feasts w j k) ≤ length (rowsAt feasts w j (k + n))
+  grows : (k n : ℕ) → length (rowsAt restPlaces w j k) ≤ length (rowsAt restPlaces w j (k + n))
   unfolding rowsAt
   grows k zero = simp add-zero (omega arith)
   grows k (suc n) = let h = grows k n in simp (add-suc, length-append) (omega arith)
 
-  pub rows-mono : (k m : ℕ) → k ≤ m → length (rowsAt feasts w j k) ≤ length (rowsAt feasts w j m)
+  pub rows-mono : (k m : ℕ) → k ≤ m → length (rowsAt restPlaces w j k) ≤ length (rowsAt restPlaces w j m)
   rows-mono k m h = let e : k + (m - k) ≡ m = omega arith in rw e at (grows k (m - k))
 
 two : (b : Bool) (x y : ℕ) → length (cond b (x ∷ y ∷ []) []) ≤ 2
 two true x y = omega arith
 two false x y = omega arith
 
-pub rows-short : (feasts : List ℕ) (w j k : ℕ) → length (rowsAt feasts w j k) ≤ k * 2
+pub rows-short : (restPlaces : List ℕ) (w j k : ℕ) → length (rowsAt restPlaces w j k) ≤ k * 2
 unfolding rowsAt
-rows-short feasts w j zero = omega arith
-rows-short feasts w j (suc k) =
-    let h = rows-short feasts w j k in
-    simp length-append (omega (arith, two (beginsAt feasts w k) (j + k) (runAt feasts w k)))
+rows-short restPlaces w j zero = omega arith
+rows-short restPlaces w j (suc k) =
+    let h = rows-short restPlaces w j k in
+    simp length-append (omega (arith, two (beginsAt restPlaces w k) (j + k) (runAt restPlaces w k)))
 
 -- How many entries there are does not depend on the day on which the year begins.
 as-long : (b : Bool) (x y z : ℕ) → length (cond b (x ∷ z ∷ []) []) ≡ length (cond b (y ∷ z ∷ []) [])
 as-long true x y z = refl
 as-long false x y z = refl
 
-pub rows-as-long : (feasts : List ℕ) (w i j k : ℕ) → length (rowsAt feasts w i k) ≡ length (rowsAt feasts w j k)
+pub rows-as-long : (restPlaces : List ℕ) (w i j k : ℕ) → length (rowsAt restPlaces w i k) ≡ length (rowsAt restPlaces w j k)
 unfolding rowsAt
-rows-as-long feasts w i j zero = refl
-rows-as-long feasts w i j (suc k) =
-    let h = rows-as-long feasts w i j k in
-    simp length-append (omega (arith, as-long (beginsAt feasts w k) (i + k) (j + k) (runAt feasts w k)))
+rows-as-long restPlaces w i j zero = refl
+rows-as-long restPlaces w i j (suc k) =
+    let h = rows-as-long restPlaces w i j k in
+    simp length-append (omega (arith, as-long (beginsAt restPlaces w k) (i + k) (j + k) (runAt restPlaces w k)))

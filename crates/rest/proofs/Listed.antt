@@ -20,7 +20,7 @@ use Rattle.rest.specs.Table.{restDay, restDays}
 use Rattle.rest.specs.Stretches.{daysFrom, begins, rowAt, rows, stretchRows}
 use Rattle.rest.specs.Steps.{place, places, daysAt, restAt, runAt, beginsAt, rowsAt}
 use Rattle.rest.specs.Check.{passes, rowsGood}
-use Rattle.rest.specs.declared.table.Feast.{Feast}
+use Rattle.hebrew.specs.declared.date.MonthDay.{MonthDay}
 use Rattle.rest.proofs.RestOfYear.{eve-works, rows-good, no-four, rest-in-range}
 use Rattle.rest.proofs.Rows.{GoodRow, good-row, good-rows}
 use Rattle.rest.proofs.ShortRuns.{on, run-on}
@@ -28,7 +28,7 @@ use Rattle.rest.proofs.StretchOf.{ends-in-range}
 use Rattle.rest.proofs.Alike.{at, on-same}
 
 -- A stretch that begins on a day has as many days as one finds by looking on.
-module _ (table : List Feast) (ok : passes table ≡ true) where
+module _ (table : List MonthDay) (ok : passes table ≡ true) where
   pub begun-run : (j : ℕ) → begins (restDay table) j ≡ true → Run (restDay table) j (on (restDay table) j)
   unfolding begins
   begun-run j e = run-on (restDay table) (no-four table ok) j (and-left _ _ e) (not-true _ (and-right (restDay table j) _ e))
@@ -48,10 +48,10 @@ module _ (table : List Feast) (ok : passes table ≡ true) where
     abbrev len : ℕ
     len = yearLength h
 
-    abbrev feasts : List ℕ
-    feasts = places table len
+    abbrev restPlaces : List ℕ
+    restPlaces = places table len
 
-    begins-same : (k : ℕ) → k < len → begins (restDay table) (newYear h + k) ≡ beginsAt feasts w k
+    begins-same : (k : ℕ) → k < len → begins (restDay table) (newYear h + k) ≡ beginsAt restPlaces w k
     unfolding begins beginsAt
     begins-same k p =
         let a = at table ok h l u (newYear h + k) k refl p in
@@ -61,45 +61,45 @@ module _ (table : List Feast) (ok : passes table ≡ true) where
         rw (a, e, eve-works table ok h l (omega arith), lt-leb 1 k (omega arith)))
         (λ q. rw (a, at table ok h l u (newYear h + k - 1) (k - 1) (omega arith) (omega arith), le-leb 1 k (omega arith)))
 
-    row-same : (k : ℕ) → k < len → rowAt (restDay table) (newYear h + k) ≡ cond (beginsAt feasts w k) ((newYear h + k) ∷ runAt feasts w k ∷ []) []
+    row-same : (k : ℕ) → k < len → rowAt (restDay table) (newYear h + k) ≡ cond (beginsAt restPlaces w k) ((newYear h + k) ∷ runAt restPlaces w k ∷ []) []
     unfolding rowAt
-    row-same k p = rw (begins-same k p) (go (beginsAt feasts w k) refl)
+    row-same k p = rw (begins-same k p) (go (beginsAt restPlaces w k) refl)
       where
         go :
-            (b : Bool) → beginsAt feasts w k ≡ b →
+            (b : Bool) → beginsAt restPlaces w k ≡ b →
             cond b ((newYear h + k) ∷ (seekNot (restDay table) (daysFrom (newYear h + k)) (newYear h + k) - (newYear h + k)) ∷ []) []
-            ≡ cond b ((newYear h + k) ∷ runAt feasts w k ∷ []) []
+            ≡ cond b ((newYear h + k) ∷ runAt restPlaces w k ∷ []) []
         go false e = refl
         go true e =
             let t = begins-same k p ∙ e in
             let r = begun-run (newYear h + k) t in
             rw (begun-length (newYear h + k) t, on-same table ok h l u k p (r .passes (newYear h + k) (omega arith) (omega (arith, r .some))))
 
-    rows-same : (k : ℕ) → k ≤ len → rows (restDay table) (newYear h) k ≡ rowsAt feasts w (newYear h) k
+    rows-same : (k : ℕ) → k ≤ len → rows (restDay table) (newYear h) k ≡ rowsAt restPlaces w (newYear h) k
     unfolding rows rowsAt
     rows-same zero p = refl
     rows-same (suc k) p = rw (rows-same k (omega arith), row-same k (omega arith))
 
     -- The stretches of the year.
-    pub stretches-same : stretchRows table h ≡ rowsAt feasts w (newYear h) len
+    pub stretches-same : stretchRows table h ≡ rowsAt restPlaces w (newYear h) len
     unfolding stretchRows
     stretches-same = rows-same len (omega arith)
 
 -- The rest days of a year, from their places.
-pub rest-days-same : (table : List Feast) (h : ℕ) → rowsGood table (yearLength h) ≡ true → restDays table h ≡ daysAt (newYear h) (places table (yearLength h))
+pub rest-days-same : (table : List MonthDay) (h : ℕ) → rowsGood table (yearLength h) ≡ true → restDays table h ≡ daysAt (newYear h) (places table (yearLength h))
 unfolding restDays daysAt places dayNumber
 rest-days-same [] h g = refl
 rest-days-same (f ∷ table) h g =
     let e : newYear h + daysBefore (yearLength h) (f .month) + (f .day - 1) ≡ newYear h + place (yearLength h) f = omega (arith, good-row f table (yearLength h) g .day .0) in
     rw (e, rest-days-same table h (good-rows f table (yearLength h) g))
 
-pub days-at : (j : ℕ) (feasts : List ℕ) (i : ℕ) → i < length feasts → getD (daysAt j feasts) i 0 ≡ j + getD feasts i 0
+pub days-at : (j : ℕ) (restPlaces : List ℕ) (i : ℕ) → i < length restPlaces → getD (daysAt j restPlaces) i 0 ≡ j + getD restPlaces i 0
 unfolding daysAt
 days-at j [] i p = absurd (omega arith)
-days-at j (x ∷ feasts) zero p = refl
-days-at j (x ∷ feasts) (suc i) p = days-at j feasts i (omega arith)
+days-at j (x ∷ restPlaces) zero p = refl
+days-at j (x ∷ restPlaces) (suc i) p = days-at j restPlaces i (omega arith)
 
-pub days-at-length : (j : ℕ) (feasts : List ℕ) → length (daysAt j feasts) ≡ length feasts
+pub days-at-length : (j : ℕ) (restPlaces : List ℕ) → length (daysAt j restPlaces) ≡ length restPlaces
 unfolding daysAt
 days-at-length j [] = refl
-days-at-length j (x ∷ feasts) = rw (days-at-length j feasts)
+days-at-length j (x ∷ restPlaces) = rw (days-at-length j restPlaces)

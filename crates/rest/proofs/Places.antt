@@ -14,19 +14,19 @@ use Rattle.hebrew.proofs.Placed.{before-from}
 use Rattle.rest.specs.Check.{rowsGood}
 use Rattle.rest.specs.Table.{restTable}
 use Rattle.rest.specs.Steps.{place, places}
-use Rattle.rest.specs.declared.table.Feast.{Feast}
+use Rattle.hebrew.specs.declared.date.MonthDay.{MonthDay}
 use Rattle.rest.proofs.Rows.{good-row, good-rows}
 
-abbrev none : Feast
+abbrev none : MonthDay
 none = record { month = 0; day = 0 }
 
-pub place-at : (table : List Feast) (len i : ℕ) → i < length table → getD (places table len) i 0 ≡ place len (getD table i none)
+pub place-at : (table : List MonthDay) (len i : ℕ) → i < length table → getD (places table len) i 0 ≡ place len (getD table i none)
 unfolding places
 place-at [] len i h = absurd (omega arith)
 place-at (f ∷ table) len zero h = refl
 place-at (f ∷ table) len (suc i) h = place-at table len i (omega arith)
 
-pub places-length : (table : List Feast) (len : ℕ) → length (places table len) ≡ length table
+pub places-length : (table : List MonthDay) (len : ℕ) → length (places table len) ≡ length table
 unfolding places
 places-length [] len = refl
 places-length (f ∷ table) len = rw (places-length table len)
@@ -53,7 +53,7 @@ good-all : eachOf lengths (rowsGood restTable) ≡ true
 unfolding eachOf rowsGood monthLength
 good-all = refl
 
-small : (table : List Feast) (len : ℕ) → IsLength len → rowsGood table len ≡ true → (i : ℕ) → getD (places table len) i 0 ≤ 400
+small : (table : List MonthDay) (len : ℕ) → IsLength len → rowsGood table len ≡ true → (i : ℕ) → getD (places table len) i 0 ≤ 400
 unfolding places
 small [] len e g i = omega arith
 small (f ∷ table) len e g zero =

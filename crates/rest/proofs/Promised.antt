@@ -17,7 +17,7 @@ use Rattle.rest.specs.Table.{restDay}
 use Rattle.rest.specs.Stretches.{StretchFor, nextRest, stretchFirst, stretchPast}
 use Rattle.rest.specs.Check.{passes}
 use Rattle.rest.specs.Answers.{stretchAnswer, stretchOn, noStretch}
-use Rattle.rest.specs.declared.table.Feast.{Feast}
+use Rattle.hebrew.specs.declared.date.MonthDay.{MonthDay}
 use Rattle.rest.specs.declared.StretchAnswer.{StretchAnswer}
 use Rattle.rest.proofs.Theorems.{a-stretch, not-over, earliest, days-left, none-ahead}
 
@@ -32,14 +32,14 @@ left-range a b l u =
     (λ p. rw (le-ltb a b (omega arith)) (le-leb (a - b) 6 (omega arith)))
 
 -- What an answer promises by its number.
-pub record Promised (table : List Feast) (j : ℕ) (r : StretchAnswer) : Type 0 where
+pub record Promised (table : List MonthDay) (j : ℕ) (r : StretchAnswer) : Type 0 where
   pub done : r .refusal ≡ 0 → StretchFor table j (r .first) (r .length)
   pub left : r .refusal ≡ 0 → (r .«days_left» ≡ subℕ (r .first) j) × (leftRange (r .«days_left») ≡ true)
   pub outside : r .refusal ≡ 4 → outOfRange j ≡ true
   pub none : r .refusal ≡ 9 → (f c : ℕ) → Run (restDay table) f c → j < f + c → ⊥
   pub number : (r .refusal ≡ 4 → ⊥) → (r .refusal ≡ 9 → ⊥) → r .refusal ≡ 0
 
-module _ (table : List Feast) (ok : passes table ≡ true) (j : ℕ) where
+module _ (table : List MonthDay) (ok : passes table ≡ true) (j : ℕ) where
   ahead : firstDay ≤ j → j ≤ lastDay → nextRest table j ≤ lastDay → Promised table j (stretchOn j (stretchFirst table j) (stretchPast table j))
   ahead lo hi p =
       let s = a-stretch table ok j lo hi p in

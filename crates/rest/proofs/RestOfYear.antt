@@ -21,7 +21,7 @@ use Rattle.hebrew.specs.Dates.{dateOf}
 use Rattle.rest.specs.Table.{inTable, isRest, restDay}
 use Rattle.rest.specs.Steps.{places, restAt}
 use Rattle.rest.specs.Check.{rowsGood, passesIn, passes}
-use Rattle.rest.specs.declared.table.Feast.{Feast}
+use Rattle.hebrew.specs.declared.date.MonthDay.{MonthDay}
 use Rattle.rest.proofs.Rows.{in-table}
 use Rattle.rest.proofs.ShortRuns.{NoFour}
 
@@ -53,7 +53,7 @@ module _ (h : ℕ) (l : 1 ≤ h) (u : h ≤ 9999) (x : ℕ) (d : x < yearLength 
       let b : newYear h + x ≤ lastDay = omega (arith, last, rise-le (h + 1) 10000 (omega arith) (omega arith) (omega arith)) in
       rw (le-ltb _ _ a, le-ltb _ _ b)
 
-module _ (table : List Feast) (ok : passes table ≡ true) where
+module _ (table : List MonthDay) (ok : passes table ≡ true) where
   -- What the check says of the kind of year h.
   module _ (h : ℕ) (l : 1 ≤ h) (u : h ≤ 9999) where
     abbrev w : ℕ
@@ -62,8 +62,8 @@ module _ (table : List Feast) (ok : passes table ≡ true) where
     abbrev len : ℕ
     len = yearLength h
 
-    abbrev feasts : List ℕ
-    feasts = places table len
+    abbrev restPlaces : List ℕ
+    restPlaces = places table len
 
     in-kind : passesIn table w len ≡ true
     unfolding passes kindOf
@@ -78,7 +78,7 @@ module _ (table : List Feast) (ok : passes table ≡ true) where
     rows-good = and-left _ _ (and-left _ _ (and-left _ _ in-kind))
 
     -- Rest days by day number are rest days by their place in the year.
-    pub rest-placed : (x : ℕ) → x < len → restDay table (newYear h + x) ≡ restAt feasts w x
+    pub rest-placed : (x : ℕ) → x < len → restDay table (newYear h + x) ≡ restAt restPlaces w x
     unfolding restDay isRest restAt dateOf
     rest-placed x d =
         let z : newYear h + x - newYear h ≡ x = omega arith in
@@ -97,11 +97,11 @@ module _ (table : List Feast) (ok : passes table ≡ true) where
         let k = length-in h l (omega arith) in
         let z : newYear h + 0 ≡ newYear h = omega arith in
         let t = and-right (rowsGood table len) _ (and-left _ _ (and-left _ _ in-kind)) in
-        let e : restAt feasts w 0 ≡ true = rw (t, or-true) in rw z at (rest-placed 0 (omega arith) ∙ e)
+        let e : restAt restPlaces w 0 ≡ true = rw (t, or-true) in rw z at (rest-placed 0 (omega arith) ∙ e)
 
-    pub last-day-works : restAt feasts w (len - 1) ≡ false
+    pub last-day-works : restAt restPlaces w (len - 1) ≡ false
     unfolding passesIn
-    last-day-works = not-true _ (and-right (rowsGood table len && elem 0 feasts) _ (and-left _ _ in-kind))
+    last-day-works = not-true _ (and-right (rowsGood table len && elem 0 restPlaces) _ (and-left _ _ in-kind))
 
     last-eve : newYear h + (len - 1) ≡ newYear (h + 1) - 1
     unfolding yearLength
@@ -112,12 +112,12 @@ module _ (table : List Feast) (ok : passes table ≡ true) where
         let k = length-in h l (omega arith) in rw (← last-eve) (rest-placed (len - 1) (omega arith) ∙ last-day-works)
 
     abbrev four : ℕ → Bool
-    four x = restAt feasts w x && restAt feasts w (x + 1) && restAt feasts w (x + 2) && restAt feasts w (x + 3)
+    four x = restAt restPlaces w x && restAt restPlaces w (x + 1) && restAt restPlaces w (x + 2) && restAt restPlaces w (x + 3)
 
     four-in-year : (x : ℕ) → x < len - 3 → four x ≡ false
     unfolding passesIn
     four-in-year x d =
-        let t = and-right (rowsGood table len && elem 0 feasts && not (restAt feasts w (len - 1))) _ in-kind in
+        let t = and-right (rowsGood table len && elem 0 restPlaces && not (restAt restPlaces w (len - 1))) _ in-kind in
         not-true _ (at 0 (len - 3) (λ x. not (four x)) t x (omega arith) (omega arith))
 
   -- The day before a New Year is no rest day: before the first the range has not begun, before another it is 29 Elul.
@@ -135,7 +135,7 @@ module _ (table : List Feast) (ok : passes table ≡ true) where
   unfolding restDay
   rest-in-range j e = within firstDay lastDay j (not-true _ (and-left _ _ e))
 
-  rests-at : (h : ℕ) (l : 1 ≤ h) (u : h ≤ 9999) (x j : ℕ) → newYear h + x ≡ j → x < yearLength h → restDay table j ≡ true → restAt (feasts h l u) (w h l u) x ≡ true
+  rests-at : (h : ℕ) (l : 1 ≤ h) (u : h ≤ 9999) (x j : ℕ) → newYear h + x ≡ j → x < yearLength h → restDay table j ≡ true → restAt (restPlaces h l u) (w h l u) x ≡ true
   rests-at h l u x j e d r = sym (rest-placed h l u x d) ∙ rw e r
 
   not-eve : (h j : ℕ) → 1 ≤ h → h ≤ 10000 → newYear h ≡ j + 1 → restDay table j ≡ true → ⊥

@@ -17,20 +17,20 @@ use Rattle.hebrew.proofs.Placed.{InMonth, month-is, month-holds, sums-rise}
 use Rattle.rest.specs.Table.{inTable}
 use Rattle.rest.specs.Steps.{place, places}
 use Rattle.rest.specs.Check.{rowsGood}
-use Rattle.rest.specs.declared.table.Feast.{Feast}
+use Rattle.hebrew.specs.declared.date.MonthDay.{MonthDay}
 
 -- A row that is a date of a year of this length.
-pub record GoodRow (len : ℕ) (f : Feast) : Type 0 where
+pub record GoodRow (len : ℕ) (f : MonthDay) : Type 0 where
   pub code : (1 ≤ f .month) × (f .month ≤ 13)
   pub day : (1 ≤ f .day) × (f .day ≤ monthLength len (f .month))
 
-pub good-row : (f : Feast) (table : List Feast) (len : ℕ) → rowsGood (f ∷ table) len ≡ true → GoodRow len f
+pub good-row : (f : MonthDay) (table : List MonthDay) (len : ℕ) → rowsGood (f ∷ table) len ≡ true → GoodRow len f
 unfolding rowsGood
 good-row f table len e =
     let t = and-left _ _ e in
     record { code = within 1 13 _ (not-true _ (and-left _ _ t)); day = within 1 _ _ (not-true _ (and-right (not (outside 1 13 (f .month))) _ t)) }
 
-pub good-rows : (f : Feast) (table : List Feast) (len : ℕ) → rowsGood (f ∷ table) len ≡ true → rowsGood table len ≡ true
+pub good-rows : (f : MonthDay) (table : List MonthDay) (len : ℕ) → rowsGood (f ∷ table) len ≡ true → rowsGood table len ≡ true
 unfolding rowsGood
 good-rows f table len e = and-right (not (outside 1 13 (f .month)) && not (outside 1 (monthLength len (f .month)) (f .day))) _ e
 
@@ -38,7 +38,7 @@ module _ (h len x : ℕ) (l : IsLength len) (u : x < len) where
   abbrev pub dateIn : Date
   dateIn = record { year = h; month = monthOf len x; day = x - daysBefore len (monthOf len x) + 1 }
 
-  same-row : (f : Feast) → GoodRow len f → (eqb (dateIn .month) (f .month) && eqb (dateIn .day) (f .day)) ≡ eqb x (place len f)
+  same-row : (f : MonthDay) → GoodRow len f → (eqb (dateIn .month) (f .month) && eqb (dateIn .day) (f .day)) ≡ eqb x (place len f)
   same-row f g =
       by-cases (ℕ-discrete x (place len f))
       (λ q.
@@ -57,7 +57,7 @@ module _ (h len x : ℕ) (l : IsLength len) (u : x < len) where
       (λ m. rw (ne-eqb _ _ m))))
 
   -- So the date is in the table exactly if the day is one of the places.
-  pub in-table : (table : List Feast) → rowsGood table len ≡ true → inTable table dateIn ≡ elem x (places table len)
+  pub in-table : (table : List MonthDay) → rowsGood table len ≡ true → inTable table dateIn ≡ elem x (places table len)
   unfolding inTable places
   in-table [] e = refl
   in-table (f ∷ table) e = rw (same-row f (good-row f table len e), in-table table (good-rows f table len e))
@@ -71,7 +71,7 @@ later : (len m : ℕ) → 2 ≤ m → 30 ≤ daysBefore len m
 unfolding monthLength
 later len m l = omega (arith, sums-rise len 1 m (omega arith))
 
-alike : (f : Feast) (len other y : ℕ) → GoodRow len f → y < 30 → eqb y (place len f) ≡ eqb y (place other f)
+alike : (f : MonthDay) (len other y : ℕ) → GoodRow len f → y < 30 → eqb y (place len f) ≡ eqb y (place other f)
 alike f len other y g u =
     by-cases (ℕ-discrete (f .month) 1)
     (λ q. rw (q, tishri-begins len, tishri-begins other))
@@ -80,7 +80,7 @@ alike f len other y g u =
     let a : y ≡ place len f → ⊥ = λ e. omega (arith, later len (f .month) m, g .day .0) in
     let b : y ≡ place other f → ⊥ = λ e. omega (arith, later other (f .month) m, g .day .0) in rw (ne-eqb y _ a, ne-eqb y _ b))
 
-pub tishri-alike : (table : List Feast) (len other y : ℕ) → rowsGood table len ≡ true → y < 30 → elem y (places table len) ≡ elem y (places table other)
+pub tishri-alike : (table : List MonthDay) (len other y : ℕ) → rowsGood table len ≡ true → y < 30 → elem y (places table len) ≡ elem y (places table other)
 unfolding places
 tishri-alike [] len other y g u = refl
 tishri-alike (f ∷ table) len other y g u =

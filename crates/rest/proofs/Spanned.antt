@@ -21,20 +21,20 @@ use Rattle.rest.proofs.Answered.{worked-out}
 use Rattle.rest.proofs.Growing.{rows-as-long}
 use Rattle.rest.proofs.Listed.{rest-days-same, stretches-same}
 
-module _ (h : ℕ) (s : Span) (e : Spans h s) (feasts : List ℕ) (p : feasts ≡ places restTable (s .length)) where
-  pub days-told : restDays restTable h ≡ daysAt (s .«new_year») feasts
+module _ (h : ℕ) (s : Span) (e : Spans h s) (restPlaces : List ℕ) (p : restPlaces ≡ places restTable (s .length)) where
+  pub days-told : restDays restTable h ≡ daysAt (s .«new_year») restPlaces
   days-told = rw (p, e .begins, e .days) (rest-days-same restTable h (rows-good restTable table-passes h (e .first) (e .last)))
 
   module _ (w : ℕ) (q : w ≡ weekday (s .«new_year»)) where
-    pub rows-told : stretchRows restTable h ≡ rowsAt feasts w (s .«new_year») (s .length)
+    pub rows-told : stretchRows restTable h ≡ rowsAt restPlaces w (s .«new_year») (s .length)
     rows-told = rw (p, q, e .begins, e .days) (stretches-same restTable table-passes h (e .first) (e .last))
 
-    pub count-told : length (stretchRows restTable h) ≡ length (rowsAt feasts w 0 (s .length))
-    count-told = rw rows-told (rows-as-long feasts w (s .«new_year») 0 (s .length))
+    pub count-told : length (stretchRows restTable h) ≡ length (rowsAt restPlaces w 0 (s .length))
+    count-told = rw rows-told (rows-as-long restPlaces w (s .«new_year») 0 (s .length))
 
     pub stretch-told :
         (j first count : ℕ) → s .«new_year» ≤ j → j < s .«new_year» + s .length →
-        first ≡ firstFor feasts w (s .length) (j - s .«new_year») → count ≡ lengthFor feasts w (s .length) (j - s .«new_year») →
+        first ≡ firstFor restPlaces w (s .length) (j - s .«new_year») → count ≡ lengthFor restPlaces w (s .length) (j - s .«new_year») →
         stretchAnswer restTable j
         ≡ cond (ltb lastDay (s .«new_year» + first)) (noStretch 9) (stretchOn j (s .«new_year» + first) (s .«new_year» + first + count))
     stretch-told j first count l u f g =

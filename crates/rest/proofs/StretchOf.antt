@@ -14,7 +14,7 @@ use Rattle.newyear.proofs.YearOf.{last}
 use Rattle.rest.specs.Table.{restDay}
 use Rattle.rest.specs.Stretches.{daysFrom, nextRest, stretchFirst, stretchPast}
 use Rattle.rest.specs.Check.{passes}
-use Rattle.rest.specs.declared.table.Feast.{Feast}
+use Rattle.hebrew.specs.declared.date.MonthDay.{MonthDay}
 use Rattle.rest.proofs.RestOfYear.{eve-works, no-four, rest-in-range}
 use Rattle.rest.proofs.ShortRuns.{back, on, run-on, run-back}
 
@@ -22,7 +22,7 @@ pub clash : (b : Bool) → b ≡ true → b ≡ false → ⊥
 clash true e f = let q : _≡_ {A = ℕ} 0 1 = cc in omega arith
 clash false e f = let q : _≡_ {A = ℕ} 0 1 = cc in omega arith
 
-module _ (table : List Feast) (ok : passes table ≡ true) where
+module _ (table : List MonthDay) (ok : passes table ≡ true) where
   abbrev rest : ℕ → Bool
   rest = restDay table
 

@@ -15,12 +15,12 @@ use Rattle.newyear.specs.NewYear.{newYear}
 use Rattle.rest.specs.Table.{isRest, restDay}
 use Rattle.rest.specs.Stretches.{daysFrom, nextRest, stretchFirst, stretchPast}
 use Rattle.rest.specs.Check.{passes}
-use Rattle.rest.specs.declared.table.Feast.{Feast}
+use Rattle.hebrew.specs.declared.date.MonthDay.{MonthDay}
 use Rattle.rest.proofs.RestOfYear.{eve-works, no-four, rest-in-range}
 use Rattle.rest.proofs.StretchOf.{clash, from, around, holds, first-is, past-is}
 use Rattle.rest.proofs.ShortRuns.{on}
 
-module _ (table : List Feast) (ok : passes table ≡ true) where
+module _ (table : List MonthDay) (ok : passes table ≡ true) where
   -- A stretch has one to three days.
   pub at-most-three : (f c : ℕ) → Run (restDay table) f c → (1 ≤ c) × (c ≤ 3)
   at-most-three f c r = (

@@ -9,18 +9,18 @@ use Rattle.laws.specs.Search.{seek}
 use Rattle.laws.proofs.Found.{seek-here, seek-on}
 use Rattle.rest.specs.Steps.{restAt, nextAt}
 
-module _ (feasts : List ℕ) (w len y : ℕ) where
-  pub next-here : y < len → restAt feasts w y ≡ true → nextAt feasts w len y ≡ y
+module _ (restPlaces : List ℕ) (w len y : ℕ) where
+  pub next-here : y < len → restAt restPlaces w y ≡ true → nextAt restPlaces w len y ≡ y
   unfolding nextAt
-  next-here h e = let s : len - y ≡ suc (len - (y + 1)) = omega arith in rw s (seek-here (restAt feasts w) (len - (y + 1)) y e)
+  next-here h e = let s : len - y ≡ suc (len - (y + 1)) = omega arith in rw s (seek-here (restAt restPlaces w) (len - (y + 1)) y e)
 
-  pub next-on : y < len → restAt feasts w y ≡ false → nextAt feasts w len y ≡ nextAt feasts w len (y + 1)
+  pub next-on : y < len → restAt restPlaces w y ≡ false → nextAt restPlaces w len y ≡ nextAt restPlaces w len (y + 1)
   unfolding nextAt
   next-on h e =
       let s : len - y ≡ suc (len - (y + 1)) = omega arith in
       let t : y + 1 ≡ suc y = omega arith in
-      rw (s, seek-on (restAt feasts w) (len - (y + 1)) y e, t)
+      rw (s, seek-on (restAt restPlaces w) (len - (y + 1)) y e, t)
 
-  pub next-end : len ≤ y → nextAt feasts w len y ≡ y
+  pub next-end : len ≤ y → nextAt restPlaces w len y ≡ y
   unfolding nextAt seek
   next-end h = let s : len - y ≡ 0 = omega arith in rw s

@@ -14,7 +14,7 @@ use Rattle.newyear.proofs.Lengths.{rises}
 use Rattle.rest.specs.Table.{restDay}
 use Rattle.rest.specs.Stretches.{daysFrom, begins, rowAt, rows, stretchRows}
 use Rattle.rest.specs.Check.{passes}
-use Rattle.rest.specs.declared.table.Feast.{Feast}
+use Rattle.hebrew.specs.declared.date.MonthDay.{MonthDay}
 use Rattle.rest.proofs.RestOfYear.{rest-in-range}
 use Rattle.rest.proofs.StretchOf.{ends-in-range}
 use Rattle.rest.proofs.Listed.{begun-run, begun-length}
@@ -57,7 +57,7 @@ one-row false x y = none
 only : (f c x y : ℕ) → Row f c (x ∷ y ∷ []) → (f ≡ x) × (c ≡ y)
 only f c x y here = (refl, refl)
 
-module _ (table : List Feast) (ok : passes table ≡ true) where
+module _ (table : List MonthDay) (ok : passes table ≡ true) where
   abbrev rest : ℕ → Bool
   rest = restDay table
 
@@ -136,7 +136,7 @@ below-later : {l : List ℕ} (n m : ℕ) → Pairs l → n ≤ m → Below n l �
 below-later n m none p b = tt
 below-later n m (more q) p b = (omega (arith, b .0), below-later n m q p (b .1))
 
-module _ (table : List Feast) (ok : passes table ≡ true) where
+module _ (table : List MonthDay) (ok : passes table ≡ true) where
   rise : (j k : ℕ) → (Rising j (rows (restDay table) j k)) × (Below (j + k) (rows (restDay table) j k))
   unfolding rows rowAt
   rise j zero = (tt, tt)

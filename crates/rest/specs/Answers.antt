@@ -10,7 +10,7 @@ use Rattle.days.specs.Range.{lastDay, outOfRange}
 use Rattle.molad.specs.Years.{outOfYears}
 use Rattle.rest.specs.Table.{restDays}
 use Rattle.rest.specs.Stretches.{nextRest, stretchFirst, stretchPast, stretchRows}
-use Rattle.rest.specs.declared.table.Feast.{Feast}
+use Rattle.hebrew.specs.declared.date.MonthDay.{MonthDay}
 use Rattle.rest.specs.declared.StretchAnswer.{StretchAnswer}
 use Rattle.rest.specs.declared.ListAnswer.{ListAnswer}
 
@@ -22,7 +22,7 @@ abbrev pub stretchOn : ℕ → ℕ → ℕ → StretchAnswer
 stretchOn j first past = record { refusal = 0; first = first; length = past - first; «days_left» = subℕ first j }
 
 -- Refusal 4: the day number lies outside the range. 9: no stretch in range ends on or after the day.
-unfoldable pub stretchAnswer : List Feast → ℕ → StretchAnswer
+unfoldable pub stretchAnswer : List MonthDay → ℕ → StretchAnswer
 stretchAnswer table j =
     cond (outOfRange j) (noStretch 4)
     (cond (ltb lastDay (nextRest table j)) (noStretch 9)
@@ -41,15 +41,15 @@ unfoldable pub listBuffer : ℕ → List ℕ → List ℕ → List ℕ
 listBuffer h buffer list = cond (outOfYears h) buffer (cond (ltb (length buffer) (length list)) buffer (overwrite buffer list))
 
 -- One entry for each rest day.
-abbrev pub restDaysAnswer : List Feast → ℕ → List ℕ → ListAnswer
+abbrev pub restDaysAnswer : List MonthDay → ℕ → List ℕ → ListAnswer
 restDaysAnswer table h buffer = listAnswer h buffer (restDays table h) (length (restDays table h))
 
-abbrev pub restDaysBuffer : List Feast → ℕ → List ℕ → List ℕ
+abbrev pub restDaysBuffer : List MonthDay → ℕ → List ℕ → List ℕ
 restDaysBuffer table h buffer = listBuffer h buffer (restDays table h)
 
 -- Two entries for each stretch.
-abbrev pub stretchesAnswer : List Feast → ℕ → List ℕ → ListAnswer
+abbrev pub stretchesAnswer : List MonthDay → ℕ → List ℕ → ListAnswer
 stretchesAnswer table h buffer = listAnswer h buffer (stretchRows table h) (length (stretchRows table h) / 2)
 
-abbrev pub stretchesBuffer : List Feast → ℕ → List ℕ → List ℕ
+abbrev pub stretchesBuffer : List MonthDay → ℕ → List ℕ → List ℕ
 stretchesBuffer table h buffer = listBuffer h buffer (stretchRows table h)

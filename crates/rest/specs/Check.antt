@@ -8,14 +8,14 @@ use Rattle.laws.specs.Runs.{every, eachOf, elem, outside}
 use Rattle.newyear.specs.Kinds.{kinds}
 use Rattle.hebrew.specs.Months.{monthLength}
 use Rattle.rest.specs.Steps.{places, restAt}
-use Rattle.rest.specs.declared.table.Feast.{Feast}
+use Rattle.hebrew.specs.declared.date.MonthDay.{MonthDay}
 
 -- Each row is a date of a year of this length.
-unfoldable pub rowsGood : List Feast → ℕ → Bool
+unfoldable pub rowsGood : List MonthDay → ℕ → Bool
 rowsGood [] len = true
 rowsGood (f ∷ table) len = not (outside 1 13 (f .month)) && not (outside 1 (monthLength len (f .month)) (f .day)) && rowsGood table len
 
-unfoldable pub passesIn : List Feast → ℕ → ℕ → Bool
+unfoldable pub passesIn : List MonthDay → ℕ → ℕ → Bool
 passesIn table w len =
     rowsGood table len && elem 0 (places table len) && not (restAt (places table len) w (len - 1))
     && every 0 (len - 3) (λ x.
@@ -24,5 +24,5 @@ passesIn table w len =
     && restAt (places table len) w (x + 3)))
 
 -- A kind is 1,000 × weekday of New Year + length.
-unfoldable pub passes : List Feast → Bool
+unfoldable pub passes : List MonthDay → Bool
 passes table = eachOf kinds (λ k. passesIn table (k / 1000) (k % 1000))

@@ -6,10 +6,10 @@ use Rattle.laws.specs.Search.{Run, seek, seekNot, runStart}
 use Rattle.days.specs.Range.{lastDay}
 use Rattle.newyear.specs.NewYear.{newYear, yearLength}
 use Rattle.rest.specs.Table.{restDay}
-use Rattle.rest.specs.declared.table.Feast.{Feast}
+use Rattle.hebrew.specs.declared.date.MonthDay.{MonthDay}
 
 -- Asked for a day j, the library gives the earliest stretch whose last day is that day or later.
-pub record StretchFor (table : List Feast) (j first count : ℕ) : Type 0 where
+pub record StretchFor (table : List MonthDay) (j first count : ℕ) : Type 0 where
   pub a-stretch : Run (restDay table) first count
   pub not-over : j < first + count
   pub earliest : (f c : ℕ) → Run (restDay table) f c → j < f + c → first ≤ f
@@ -21,14 +21,14 @@ abbrev pub daysFrom : ℕ → ℕ
 daysFrom j = lastDay + 1 - j
 
 -- The first rest day on or after day j; the day after the range where there is none.
-unfoldable pub nextRest : List Feast → ℕ → ℕ
+unfoldable pub nextRest : List MonthDay → ℕ → ℕ
 nextRest table j = seek (restDay table) (daysFrom j) j
 
 -- The first day of the stretch that it lies in, and the day after that stretch's last.
-unfoldable pub stretchFirst : List Feast → ℕ → ℕ
+unfoldable pub stretchFirst : List MonthDay → ℕ → ℕ
 stretchFirst table j = runStart (restDay table) (nextRest table j)
 
-unfoldable pub stretchPast : List Feast → ℕ → ℕ
+unfoldable pub stretchPast : List MonthDay → ℕ → ℕ
 stretchPast table j = seekNot (restDay table) (daysFrom (nextRest table j)) (nextRest table j)
 
 -- The day is a stretch's first.
@@ -45,5 +45,5 @@ rows rest j zero = []
 rows rest j (suc n) = rows rest j n ++ rowAt rest (j + n)
 
 -- The stretches of a year are those that begin in it.
-unfoldable pub stretchRows : List Feast → ℕ → List ℕ
+unfoldable pub stretchRows : List MonthDay → ℕ → List ℕ
 stretchRows table h = rows (restDay table) (newYear h) (yearLength h)

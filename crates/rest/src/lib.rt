@@ -13,8 +13,7 @@ ghost use Prim.Native.Nat.{_≤_};
 ghost use lib.IntN.{subℕ};
 ghost use Rattle.rest.specs.Table.{restTable};
 ghost use Rattle.rest.specs.Answers.{stretchAnswer, restDaysAnswer, restDaysBuffer, stretchesAnswer, stretchesBuffer};
-pub use table::Feast;
-pub use table::feasts;
+use table::rest_places;
 
 #[repr(C)]
 pub struct StretchAnswer {
@@ -51,7 +50,7 @@ pub fn stretch(day: u64) -> StretchAnswer
         };
     }
     let span = newyear::year_holding(day);
-    let places = feasts(span.length);
+    let places = rest_places(span.length);
     let weekday = days::weekday_of(span.new_year);
     let run = runs::run_for(&places, weekday, span.length, day - span.new_year);
     let first = span.new_year + run.first;
@@ -89,7 +88,7 @@ pub fn rest_days(year: u64, out: &mut [u64]) -> ListAnswer
         };
     }
     let span = newyear::year_span(year);
-    let places = feasts(span.length);
+    let places = rest_places(span.length);
     lists::write_days(&places, span.new_year, out);
     ListAnswer {
         refusal: 0,
@@ -109,7 +108,7 @@ pub fn stretches(year: u64, out: &mut [u64]) -> ListAnswer
         };
     }
     let span = newyear::year_span(year);
-    let places = feasts(span.length);
+    let places = rest_places(span.length);
     let weekday = days::weekday_of(span.new_year);
     let wanted = lists::entries(&places, weekday, span.length);
     if out.len() < wanted {

@@ -1,4 +1,5 @@
 // The table of rest days, and where its rows fall in a year.
+use hebrew::MonthDay;
 ghost use mathlib.Core.Path.{_≡_};
 ghost use Prim.Native.Nat.{ℕ, _≤_};
 ghost use lib.ListN.{getD};
@@ -6,25 +7,20 @@ ghost use Rattle.newyear.specs.Kinds.{IsLength};
 ghost use Rattle.rest.specs.Table.{restTable};
 ghost use Rattle.rest.specs.Steps.{places};
 
-pub struct Feast {
-    pub month: u64,
-    pub day: u64,
-}
-
 // Tishri 1, 2, 10, 15, 22; Nisan 15, 21; Sivan 6.
-const REST_TABLE: [Feast; 8] = [
-    Feast { month: 1, day: 1 },
-    Feast { month: 1, day: 2 },
-    Feast { month: 1, day: 10 },
-    Feast { month: 1, day: 15 },
-    Feast { month: 1, day: 22 },
-    Feast { month: 8, day: 15 },
-    Feast { month: 8, day: 21 },
-    Feast { month: 10, day: 6 },
+const REST_TABLE: [MonthDay; 8] = [
+    MonthDay { month: 1, day: 1 },
+    MonthDay { month: 1, day: 2 },
+    MonthDay { month: 1, day: 10 },
+    MonthDay { month: 1, day: 15 },
+    MonthDay { month: 1, day: 22 },
+    MonthDay { month: 8, day: 15 },
+    MonthDay { month: 8, day: 21 },
+    MonthDay { month: 10, day: 6 },
 ];
 
 // How many days after New Year each row of the table falls, in a year of this length.
-pub fn feasts(length: u64) -> [u64; 8]
+pub fn rest_places(length: u64) -> [u64; 8]
     requires { ⌜ IsLength length ⌝ }
     ensures { λ r. ⌜ (r ≡ places restTable length) × ((x : ℕ) → getD r x 0 ≤ 400) ⌝ }
 {

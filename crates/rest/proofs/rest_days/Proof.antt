@@ -29,7 +29,7 @@ returns-3 c =
     let o = s .before .before .if1 .left in
     let t = le-ltb _ 8 (s .before .if2 .left) in
     let h = s .before .before .before .before .args .year in
-    let e = days-told h (s .year-span .result) (s .year-span .ensures) (f .feasts .result) (f .feasts .ensures .0) in
+    let e = days-told h (s .year-span .result) (s .year-span .ensures) (f .rest-places .result) (f .rest-places .ensures .0) in
     (rw (o, t), rw (o, t, e) (d .write-days .ensures))
 
 pub rest-days-spec : {M : Type 1} → statement M
@@ -43,8 +43,8 @@ rest-days-spec =
     (search needs)
     (λ c κs.
     let f = c .before .before in
-    let n = rw (← f .feasts .ensures .0) at (places-length restTable (f .before .year-span .result .length)) in
+    let n = rw (← f .rest-places .ensures .0) at (places-length restTable (f .before .year-span .result .length)) in
     let e = f .before .year-span .ensures in
-    (omega arith, (f .feasts .ensures .1, omega (arith, n, f .before .before .if2 .left))))
+    (omega arith, (f .rest-places .ensures .1, omega (arith, n, f .before .before .if2 .left))))
     (search needs)
     returns-3)

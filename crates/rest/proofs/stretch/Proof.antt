@@ -40,7 +40,7 @@ answered c =
     let s = f .before in
     let i = inside s in
     stretch-told (yearOf (s .before .before .before .args .day)) (s .year-holding .result) (s .year-holding .ensures)
-    (f .feasts .result) (f .feasts .ensures .0) (p .before .weekday-of .result) (p .before .weekday-of .ensures)
+    (f .rest-places .result) (f .rest-places .ensures .0) (p .before .weekday-of .result) (p .before .weekday-of .ensures)
     (s .before .before .before .args .day) (c .run-for .result .first) (c .run-for .result .length)
     (i .0) (i .1) (c .run-for .ensures .0 .0) (c .run-for .ensures .0 .1)
 

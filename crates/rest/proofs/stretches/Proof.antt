@@ -19,7 +19,7 @@ counted c =
     let w = c .before .before in
     let f = w .before in
     let s = f .before in
-    count-told (s .before .before .before .args .year) (s .year-span .result) (s .year-span .ensures) (f .feasts .result) (f .feasts .ensures .0)
+    count-told (s .before .before .before .args .year) (s .year-span .result) (s .year-span .ensures) (f .rest-places .result) (f .rest-places .ensures .0)
     (w .weekday-of .result) (w .weekday-of .ensures)
     ∙ sym (c .entries .ensures .0)
 
@@ -42,12 +42,12 @@ listed :
     let f = w .before in
     let s = f .before in
     stretchRows restTable (s .before .before .before .args .year)
-    ≡ rowsAt (f .feasts .result) (w .weekday-of .result) (s .year-span .result .«new_year») (s .year-span .result .length)
+    ≡ rowsAt (f .rest-places .result) (w .weekday-of .result) (s .year-span .result .«new_year») (s .year-span .result .length)
 listed c =
     let w = c .before .before in
     let f = w .before in
     let s = f .before in
-    rows-told (s .before .before .before .args .year) (s .year-span .result) (s .year-span .ensures) (f .feasts .result) (f .feasts .ensures .0)
+    rows-told (s .before .before .before .args .year) (s .year-span .result) (s .year-span .ensures) (f .rest-places .result) (f .rest-places .ensures .0)
     (w .weekday-of .result) (w .weekday-of .ensures)
 
 write-stretches-requires : tie.Need-write-stretches-requires

@@ -10,10 +10,10 @@ use Rattle.rest.proofs.lists.entries.Statement.{statement}
 use Rattle.rest.proofs.lists.entries.Tie as tie
 
 abbrev Inv-loop : tie.InvT-loop
-Inv-loop feasts weekday length n₀ x₀ n x = (x ≤ length) × (n ≡ count (rowsAt feasts weekday 0 x))
+Inv-loop restPlaces weekday length n₀ x₀ n x = (x ≤ length) × (n ≡ count (rowsAt restPlaces weekday 0 x))
 
 abbrev μ-loop : tie.MeasureT-loop
-μ-loop feasts weekday length n₀ x₀ n x = length - x
+μ-loop restPlaces weekday length n₀ x₀ n x = length - x
 
 loop-holds : tie.Need-loop-holds Inv-loop μ-loop
 unfolding rowsAt
@@ -23,7 +23,7 @@ add-n : tie.Need-add-n Inv-loop μ-loop
 add-n c =
     let l = c .before .before .before in
     let a = l .before .before .args in
-    let s = rows-short (a .feasts .now) (a .weekday) 0 (l .loop .x) in search needs
+    let s = rows-short (a .places .now) (a .weekday) 0 (l .loop .x) in search needs
 
 loop-again : tie.Need-loop-again Inv-loop μ-loop
 loop-again c =
@@ -31,8 +31,8 @@ loop-again c =
     let a = l .before .before .args in
     let b = sym (c .before .begins-at .ensures) in
     ⊎-elim
-    (λ v. (search needs, simp (rows-yes (a .feasts .now) (a .weekday) 0 (l .loop .x) (b ∙ v .0 .taken), length-append) (omega arith)))
-    (λ v. (search needs, simp (rows-no (a .feasts .now) (a .weekday) 0 (l .loop .x) (b ∙ v .0 .left)) (omega arith)))
+    (λ v. (search needs, simp (rows-yes (a .places .now) (a .weekday) 0 (l .loop .x) (b ∙ v .0 .taken), length-append) (omega arith)))
+    (λ v. (search needs, simp (rows-no (a .places .now) (a .weekday) 0 (l .loop .x) (b ∙ v .0 .left)) (omega arith)))
     (c .if1 .came)
 
 returns : tie.Need-returns Inv-loop μ-loop
@@ -40,7 +40,7 @@ returns c =
     let l = c .before in
     let a = l .before .before .args in
     let q : l .loop .x ≡ a .length = omega arith in
-    let s = rows-short (a .feasts .now) (a .weekday) 0 (l .loop .x) in
+    let s = rows-short (a .places .now) (a .weekday) 0 (l .loop .x) in
     (rw q at (l .loop .inv .1), omega arith)
 
 pub entries-spec : {M : Type 1} → statement M

@@ -12,10 +12,10 @@ use Rattle.rest.proofs.lists.write_days.Statement.{statement}
 use Rattle.rest.proofs.lists.write_days.Tie as tie
 
 abbrev Inv-loop : tie.InvT-loop
-Inv-loop feasts j out₀ i₀ out i = (i ≤ count feasts) × (count out ≡ count out₀) × (out ≡ overwrite out₀ (take i (daysAt j feasts)))
+Inv-loop restPlaces j out₀ i₀ out i = (i ≤ count restPlaces) × (count out ≡ count out₀) × (out ≡ overwrite out₀ (take i (daysAt j restPlaces)))
 
 abbrev μ-loop : tie.MeasureT-loop
-μ-loop feasts j out₀ i₀ out i = count feasts - i
+μ-loop restPlaces j out₀ i₀ out i = count restPlaces - i
 
 loop-holds : tie.Need-loop-holds Inv-loop μ-loop
 unfolding overwrite
@@ -30,19 +30,19 @@ loop-again : tie.Need-loop-again Inv-loop μ-loop
 loop-again c =
     let l = c .before .before in
     let a = l .before .args in
-    let long = days-at-length (a .new-year) (a .feasts .now) in
-    let v = days-at (a .new-year) (a .feasts .now) (l .loop .i) (omega arith) in (
+    let long = days-at-length (a .new-year) (a .places .now) in
+    let v = days-at (a .new-year) (a .places .now) (l .loop .i) (omega arith) in (
       search needs,
       simp length-set (l .loop .inv .1),
-      rw (← v, l .loop .inv .2) (over-take _ (daysAt (a .new-year) (a .feasts .now)) (l .loop .i) (omega arith) (omega (arith, l .before .pre .1 .1))),
+      rw (← v, l .loop .inv .2) (over-take _ (daysAt (a .new-year) (a .places .now)) (l .loop .i) (omega arith) (omega (arith, l .before .pre .1 .1))),
     )
 
 returns : tie.Need-returns Inv-loop μ-loop
 returns c =
     let l = c .before in
     let a = l .before .args in
-    let long = days-at-length (a .new-year) (a .feasts .now) in
-    rw (take-all (l .loop .i) (daysAt (a .new-year) (a .feasts .now)) (omega arith)) at (l .loop .inv .2)
+    let long = days-at-length (a .new-year) (a .places .now) in
+    rw (take-all (l .loop .i) (daysAt (a .new-year) (a .places .now)) (omega arith)) at (l .loop .inv .2)
 
 pub write-days-spec : {M : Type 1} → statement M
 write-days-spec =

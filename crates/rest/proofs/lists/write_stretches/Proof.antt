@@ -13,11 +13,11 @@ use Rattle.rest.proofs.lists.write_stretches.Statement.{statement}
 use Rattle.rest.proofs.lists.write_stretches.Tie as tie
 
 abbrev Inv-loop : tie.InvT-loop
-Inv-loop feasts weekday newYear length out₀ n₀ x₀ out n x =
-    (x ≤ length) × (n ≡ count (rowsAt feasts weekday newYear x)) × (count out ≡ count out₀) × (out ≡ overwrite out₀ (rowsAt feasts weekday newYear x))
+Inv-loop restPlaces weekday newYear length out₀ n₀ x₀ out n x =
+    (x ≤ length) × (n ≡ count (rowsAt restPlaces weekday newYear x)) × (count out ≡ count out₀) × (out ≡ overwrite out₀ (rowsAt restPlaces weekday newYear x))
 
 abbrev μ-loop : tie.MeasureT-loop
-μ-loop feasts weekday newYear length out₀ n₀ x₀ out n x = length - x
+μ-loop restPlaces weekday newYear length out₀ n₀ x₀ out n x = length - x
 
 -- In the arm that stores, the list with this day still fits.
 room : (c : tie.Then1 Inv-loop μ-loop) → c .before .before .before .loop .n + 2 ≤ count (c .before .before .before .loop .out)
@@ -26,8 +26,8 @@ room c =
     let s = l .before .before .before in
     let a = s .args in
     let k = l .loop .x in
-    let y = simp length-append at (ap count (rows-yes (a .feasts .now) (a .weekday) (a .new-year) k (sym (c .before .begins-at .ensures) ∙ c .if1 .taken))) in
-    omega (arith, rows-mono (a .feasts .now) (a .weekday) (a .new-year) (k + 1) (a .length) (omega arith), s .pre .1 .1 .1)
+    let y = simp length-append at (ap count (rows-yes (a .places .now) (a .weekday) (a .new-year) k (sym (c .before .begins-at .ensures) ∙ c .if1 .taken))) in
+    omega (arith, rows-mono (a .places .now) (a .weekday) (a .new-year) (k + 1) (a .length) (omega arith), s .pre .1 .1 .1)
 
 loop-holds : tie.Need-loop-holds Inv-loop μ-loop
 unfolding overwrite rowsAt
@@ -42,16 +42,16 @@ loop-again c =
     let b = sym (c .before .begins-at .ensures) in
     ⊎-elim
     (λ v.
-    let y = rows-yes (a .feasts .now) (a .weekday) (a .new-year) k (b ∙ v .0 .taken) in
+    let y = rows-yes (a .places .now) (a .weekday) (a .new-year) k (b ∙ v .0 .taken) in
     let h = room (record { before = c .before; if1 = v .0 }) in (
       search needs,
       simp (y, length-append) (omega (arith, v .3)),
       simp (v .2, length-set) (i .2),
       simp (v .2, y, i .3, v .1 .ensures .0)
-          (over-two _ (rowsAt (a .feasts .now) (a .weekday) (a .new-year) k) (a .new-year + k) (runAt (a .feasts .now) (a .weekday) k) (l .loop .n) (sym (i .1)) (omega (arith, h))),
+          (over-two _ (rowsAt (a .places .now) (a .weekday) (a .new-year) k) (a .new-year + k) (runAt (a .places .now) (a .weekday) k) (l .loop .n) (sym (i .1)) (omega (arith, h))),
     ))
     (λ v.
-    let y = rows-no (a .feasts .now) (a .weekday) (a .new-year) k (b ∙ v .0 .left) in
+    let y = rows-no (a .places .now) (a .weekday) (a .new-year) k (b ∙ v .0 .left) in
     (search needs, simp y (omega (arith, v .2)), simp (v .1) (i .2), simp (v .1, y) (i .3)))
     (c .if1 .came)
 

@@ -12,10 +12,10 @@ use Rattle.rest.proofs.runs.among.Statement.{statement}
 use Rattle.rest.proofs.runs.among.Tie as tie
 
 abbrev Inv-loop : tie.InvT-loop
-Inv-loop feasts x i₀ i = (i ≤ length feasts) × (elem x feasts ≡ elem x (drop i feasts))
+Inv-loop restPlaces x i₀ i = (i ≤ length restPlaces) × (elem x restPlaces ≡ elem x (drop i restPlaces))
 
 abbrev μ-loop : tie.MeasureT-loop
-μ-loop feasts x i₀ i = length feasts - i
+μ-loop restPlaces x i₀ i = length restPlaces - i
 
 loop-holds : tie.Need-loop-holds Inv-loop μ-loop
 loop-holds c = (search needs, refl)
@@ -24,20 +24,20 @@ returns : tie.Need-returns Inv-loop μ-loop
 returns c =
     let l = c .before .before .before in
     let s = l .before .args in
-    let h : l .loop .i < length (s .feasts .now) = omega arith in
-    rw (l .loop .inv .1, drop-cons (s .feasts .now) (l .loop .i) 0, eq-eqb _ _ (c .if1 .taken))
+    let h : l .loop .i < length (s .places .now) = omega arith in
+    rw (l .loop .inv .1, drop-cons (s .places .now) (l .loop .i) 0, eq-eqb _ _ (c .if1 .taken))
 
 loop-again : tie.Need-loop-again Inv-loop μ-loop
 loop-again c =
     let l = c .before .before .before in
     let s = l .before .args in
-    let h : l .loop .i < length (s .feasts .now) = omega arith in
-    (search needs, l .loop .inv .1 ∙ rw (drop-cons (s .feasts .now) (l .loop .i) 0, ne-eqb _ _ (c .if1 .left), add-one))
+    let h : l .loop .i < length (s .places .now) = omega arith in
+    (search needs, l .loop .inv .1 ∙ rw (drop-cons (s .places .now) (l .loop .i) 0, ne-eqb _ _ (c .if1 .left), add-one))
 
 returns-2 : tie.Need-returns-2 Inv-loop μ-loop
 returns-2 c =
     let s = c .before .before .args in
-    let e : c .before .loop .i ≡ length (s .feasts .now) = omega arith in
+    let e : c .before .loop .i ≡ length (s .places .now) = omega arith in
     rw (c .before .loop .inv .1, e, drop-length)
 
 pub among-spec : {M : Type 1} → statement M

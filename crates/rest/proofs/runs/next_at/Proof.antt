@@ -9,10 +9,10 @@ use Rattle.rest.proofs.runs.next_at.Statement.{statement}
 use Rattle.rest.proofs.runs.next_at.Tie as tie
 
 abbrev Inv-loop : tie.InvT-loop
-Inv-loop feasts weekday length x y₀ y = (x ≤ y) × (y ≤ length) × (nextAt feasts weekday length x ≡ nextAt feasts weekday length y)
+Inv-loop restPlaces weekday length x y₀ y = (x ≤ y) × (y ≤ length) × (nextAt restPlaces weekday length x ≡ nextAt restPlaces weekday length y)
 
 abbrev μ-loop : tie.MeasureT-loop
-μ-loop feasts weekday length x y₀ y = length - y
+μ-loop restPlaces weekday length x y₀ y = length - y
 
 loop-holds : tie.Need-loop-holds Inv-loop μ-loop
 loop-holds c = (search needs, search needs, refl)
@@ -22,7 +22,7 @@ returns c =
     let r = c .before in
     let l = r .before .before in
     let a = l .before .before .args in
-    let e = next-here (a .feasts .now) (a .weekday) (a .length) (l .loop .y) (omega arith) (sym (r .rest-at .ensures) ∙ c .if1 .taken) in
+    let e = next-here (a .places .now) (a .weekday) (a .length) (l .loop .y) (omega arith) (sym (r .rest-at .ensures) ∙ c .if1 .taken) in
     (sym (l .loop .inv .2 ∙ e), omega arith)
 
 loop-again : tie.Need-loop-again Inv-loop μ-loop
@@ -30,14 +30,14 @@ loop-again c =
     let r = c .before in
     let l = r .before .before in
     let a = l .before .before .args in
-    let e = next-on (a .feasts .now) (a .weekday) (a .length) (l .loop .y) (omega arith) (sym (r .rest-at .ensures) ∙ c .if1 .left) in
+    let e = next-on (a .places .now) (a .weekday) (a .length) (l .loop .y) (omega arith) (sym (r .rest-at .ensures) ∙ c .if1 .left) in
     (omega arith, omega arith, l .loop .inv .2 ∙ e)
 
 returns-2 : tie.Need-returns-2 Inv-loop μ-loop
 returns-2 c =
     let l = c .before in
     let a = l .before .before .args in
-    let e = next-end (a .feasts .now) (a .weekday) (a .length) (l .loop .y) (omega arith) in
+    let e = next-end (a .places .now) (a .weekday) (a .length) (l .loop .y) (omega arith) in
     let y : l .loop .y ≡ a .length = omega arith in
     (sym (l .loop .inv .2 ∙ e ∙ y), omega arith)
 

@@ -11,8 +11,8 @@ use Rattle.laws.proofs.Stores.{over-take}
 use Rattle.rest.specs.Table.{restTable}
 use Rattle.rest.specs.Steps.{places}
 use Rattle.rest.proofs.Places.{place-at, places-length, places-small, row-facts}
-use Rattle.rest.proofs.table.feasts.Statement.{statement}
-use Rattle.rest.proofs.table.feasts.Tie as tie
+use Rattle.rest.proofs.table.rest_places.Statement.{statement}
+use Rattle.rest.proofs.table.rest_places.Tie as tie
 
 -- The array before the first turn.
 abbrev empty : List ℕ
@@ -56,8 +56,8 @@ returns c =
     let e : c .before .loop .at ≡ places restTable len = rw (done, few, append-nil) at (c .before .loop .inv .1) in
     (e, λ x. rw e (places-small len (c .before .before .pre) x))
 
-pub feasts-spec : {M : Type 1} → statement M
-feasts-spec =
+pub rest-places-spec : {M : Type 1} → statement M
+rest-places-spec =
     tie.close
     (tie.spec
     Inv-loop
