@@ -1,14 +1,16 @@
 -- One test over the years 1 to 10,000: New Years rise, each length is one of the six and 383 or more exactly in leap
 -- years, each year is one of the fourteen kinds, and no New Year falls on Sunday, Wednesday or Friday.
 use mathlib.Core.Path.{_≡_, refl}
-use mathlib.Core.Bool.{Bool, true, false, not, Bool·beq}
+use mathlib.Core.Bool.{Bool, true, false, _&&_, not, Bool·beq}
 use mathlib.Core.List.{List, [], _∷_}
-use Prim.Native.Nat.{ℕ, _+_, _*_, _-_, _/_, _%_, _≤_, _<_}
+use mathlib.Core.Logic.{by-cases}
+use Prim.Native.Nat.{ℕ, zero, suc, _+_, _*_, _-_, _/_, _%_, _≤_, _<_}
 use native.Mathlib.Omega.{arith}
+use native.Mathlib.Decide.{ℕ-discrete}
 use lib.Dec.{ltb, leb}
-use borrow.Author.Tests.{ltb-true, not-true}
-use Rattle.laws.specs.Runs.{every, eachOf, elem, outside}
-use Rattle.laws.proofs.Tests.{at, of, within, all, Each, facts, beq-true}
+use borrow.Author.Tests.{ltb-true, leb-true, not-true}
+use Rattle.laws.specs.Runs.{eachOf, elem, outside}
+use Rattle.laws.proofs.Tests.{and-left, and-right, of, within, all, Each, facts, beq-true}
 use Rattle.days.specs.Weekday.{weekday}
 use Rattle.molad.specs.Years.{leap}
 use Rattle.newyear.specs.NewYear.{newYear, yearLength}
@@ -24,21 +26,37 @@ is-length n e =
     let w = within 353 385 n (not-true _ (of lengths (λ n. not (outside 353 385 n)) six-bounds n e)) in
     record { among = e; short = w .0; long = w .1 }
 
--- What the test computes of a year.
-tests : ℕ → List Bool
-tests h =
-    let a = quick h in
-    let b = quick (h + 1) in
+-- What the test computes of year h from its New Year a and the next one, b; the last two say that New Year h comes in
+-- the h-th year of 365¼ days from day 347,700 on.
+tests : ℕ → ℕ → ℕ → List Bool
+tests h a b =
     ltb a b ∷ elem (b - a) lengths ∷ Bool·beq (leb 383 (b - a)) (leap h) ∷ elem (1000 * weekday a + (b - a)) kinds
-    ∷ not (elem (weekday a) (1 ∷ 4 ∷ 6 ∷ [])) ∷ []
+    ∷ not (elem (weekday a) (1 ∷ 4 ∷ 6 ∷ [])) ∷ leb (1461 * (h - 1) + 1390800) (4 * a) ∷ leb (4 * a) (1461 * h + 1390800) ∷ []
 
-tests-all : every 1 10000 (λ h. all (tests h)) ≡ true
-unfolding every tests quick leap
-tests-all = refl
+-- The test of n years from year h on, whose New Year is a: each New Year is worked out once.
+walk : ℕ → ℕ → ℕ → Bool
+walk zero h a = true
+walk (suc n) h a = let b = quick (h + 1) in all (tests h a b) && walk n (h + 1) b
+
+walk-all : walk 10000 1 347998 ≡ true
+unfolding walk tests quick leap
+walk-all = refl
+
+walk-at : (n h a : ℕ) → quick h ≡ a → walk n h a ≡ true → (k : ℕ) → h ≤ k → k < h + n → all (tests k (quick k) (quick (k + 1))) ≡ true
+unfolding walk
+walk-at zero h a q e k l u = absurd (omega arith)
+walk-at (suc n) h a q e k l u =
+    by-cases (ℕ-discrete k h)
+    (λ s. rw (s, q) (and-left _ _ e))
+    (λ s. walk-at n (h + 1) (quick (h + 1)) refl (and-right (all (tests h a (quick (h + 1)))) _ e) k (omega arith) (omega arith))
+
+first-quick : quick 1 ≡ 347998
+unfolding quick
+first-quick = refl
 
 module _ (h : ℕ) (l : 1 ≤ h) (u : h ≤ 10000) where
-  passed : Each (tests h)
-  passed = facts (tests h) (at 1 10000 (λ h. all (tests h)) tests-all h l (omega arith))
+  passed : Each (tests h (quick h) (quick (h + 1)))
+  passed = facts (tests h (quick h) (quick (h + 1))) (walk-at 10000 1 347998 first-quick walk-all h l (omega arith))
 
   -- New Years rise.
   pub rises : newYear h < newYear (h + 1)
@@ -64,3 +82,10 @@ module _ (h : ℕ) (l : 1 ≤ h) (u : h ≤ 10000) where
   pub never-on : elem (weekday (newYear h)) (1 ∷ 4 ∷ 6 ∷ []) ≡ false
   unfolding tests
   never-on = rw (newYear-quick h l) (not-true _ (passed .1 .1 .1 .1 .0))
+
+  -- New Year comes in the h-th year of 365¼ days from day 347,700 on.
+  pub near : (1461 * (h - 1) + 1390800 ≤ 4 * newYear h) × (4 * newYear h ≤ 1461 * h + 1390800)
+  unfolding tests
+  near =
+      let t = passed .1 .1 .1 .1 .1 in
+      rw (newYear-quick h l) (leb-true _ _ (t .0), leb-true _ _ (t .1 .0))

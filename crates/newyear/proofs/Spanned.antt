@@ -6,9 +6,9 @@ use Rattle.days.specs.Range.{firstDay, lastDay}
 use Rattle.newyear.specs.NewYear.{newYear, yearLength, yearOf}
 use Rattle.newyear.specs.Spans.{Spans}
 use Rattle.newyear.specs.declared.span.Span.{Span}
-use Rattle.newyear.proofs.Lengths.{length-in}
+use Rattle.newyear.proofs.Lengths.{length-in, near}
 use Rattle.newyear.proofs.Rise.{rise-le}
-use Rattle.newyear.proofs.YearOf.{first, near, held}
+use Rattle.newyear.proofs.YearOf.{first, held}
 
 pub spans : (h : ℕ) (s : Span) → 1 ≤ h → h ≤ 9999 → s .year ≡ h → s .«new_year» ≡ newYear h → s .length ≡ newYear (h + 1) - newYear h → Spans h s
 unfolding yearLength

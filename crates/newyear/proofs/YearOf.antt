@@ -7,13 +7,12 @@ use Prim.Native.Nat.{ℕ, _+_, _*_, _-_, _/_, _≤_, _<_}
 use native.Mathlib.Omega.{arith}
 use native.Mathlib.Decide.{decLt, ℕ-discrete}
 use lib.Dec.{leb, ltb}
-use borrow.Author.Tests.{leb-true, ltb-true, ltb-false}
-use Rattle.laws.specs.Runs.{every}
+use borrow.Author.Tests.{ltb-true, ltb-false}
 use Rattle.laws.proofs.Counted.{begun-is}
-use Rattle.laws.proofs.Tests.{at, all, facts}
 use Rattle.days.specs.Range.{firstDay, lastDay}
 use Rattle.newyear.specs.NewYear.{newYear, yearOf}
 use Rattle.newyear.proofs.Quick.{quick, newYear-quick}
+use Rattle.newyear.proofs.Lengths.{near}
 use Rattle.newyear.proofs.Rise.{rise-le}
 
 -- Day j lies in year h.
@@ -31,20 +30,6 @@ first = newYear-quick 1 (omega arith)
 pub last : newYear 10000 ≡ lastDay + 1
 unfolding quick
 last = newYear-quick 10000 (omega arith)
-
--- In years of 365¼ days from day 347,700 on, New Year h comes in the h-th.
-close : ℕ → List Bool
-close h = let a = 4 * quick h in leb (1461 * (h - 1) + 1390800) a ∷ leb a (1461 * h + 1390800) ∷ []
-
-close-all : every 1 10001 (λ h. all (close h)) ≡ true
-unfolding every close quick
-close-all = refl
-
-pub near : (h : ℕ) → 1 ≤ h → h ≤ 10001 → (1461 * (h - 1) + 1390800 ≤ 4 * newYear h) × (4 * newYear h ≤ 1461 * h + 1390800)
-unfolding close
-near h l u =
-    let t = facts (close h) (at 1 10001 (λ h. all (close h)) close-all h l (omega arith)) in
-    rw (newYear-quick h l) (omega (arith, leb-true))
 
 -- The year that holds a day is the only one that it lies in.
 pub year-is : (j h : ℕ) → InYear j h → yearOf j ≡ h
