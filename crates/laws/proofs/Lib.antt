@@ -2,6 +2,7 @@ pub mod Counted
 pub mod Cycle
 pub mod Found
 pub mod One
+pub mod Promises
 pub mod Shifts
 pub mod Signed
 pub mod Stores

@@ -1,23 +1,62 @@
--- One answer for each call, and what every answer keeps to.
-use mathlib.Core.Path.{_≡_}
-use mathlib.Core.Bool.{Bool, true, false, cond}
-use Prim.Native.Nat.{ℕ, _≤_}
+-- What `molad` promises, and that its contract leaves one answer.
+use mathlib.Core.Path.{_≡_, refl, sym, _∙_}
+use mathlib.Core.Bool.{Bool, true, false, not, _&&_, and-false, false≢true}
+use mathlib.Core.List.{[], _∷_}
+use Prim.Native.Nat.{ℕ, _/_, _%_, _≤_}
 use native.Mathlib.Omega.{arith}
+use borrow.Author.Tests.{eqb-true, eq-eqb}
+use lib.Dec.{eqb}
+use Rattle.laws.specs.Promise.{_else_, Promised}
 use Rattle.laws.proofs.One.{one-result}
-use Rattle.molad.specs.Years.{leap, outOfYears}
-use Rattle.molad.specs.Molad.{noMonth, moladTime}
-use Rattle.molad.specs.Answers.{noMolad, moladOn, moladAnswer}
+use Rattle.laws.proofs.Tests.{and-left}
+use Rattle.laws.proofs.Promises.{Catches, ranged, either, asks, answered}
+use Rattle.molad.specs.Years.{leap, lastYear, InYears}
+use Rattle.molad.specs.Molad.{IsMonth, noMonth, moladDay, moladTime}
+use Rattle.molad.specs.Answers.{noMolad, moladAnswer}
+use Rattle.molad.specs.Steps.{IsMonths, IsMolad}
 use Rattle.molad.specs.declared.MoladAnswer.{MoladAnswer}
+use Rattle.molad.specs.declared.months.Months.{Months}
+use Rattle.molad.specs.declared.parts.Molad.{Molad}
 
+-- Code 6 in a common year is caught, and so a code that is no month of the year.
+adar-one : (isLeap : Bool) (code : ℕ) → Catches (eqb code 6 && not isLeap) (code ≡ 6 → isLeap ≡ true)
+adar-one true code = record { passes = λ _ _. refl; catches = λ e. absurd (false≢true (simp and-false at e)) }
+adar-one false code =
+    record {
+      passes = λ e q. absurd (false≢true (sym (rw (eq-eqb code 6 q) at e)));
+      catches = λ e m. false≢true (m (eqb-true code 6 (and-left _ _ e)));
+    }
+
+pub months-caught : (isLeap : Bool) (code : ℕ) → Catches (noMonth isLeap code) (IsMonth isLeap code)
+unfolding noMonth
+months-caught isLeap code = either (ranged 1 13 code) (adar-one isLeap code)
+
+-- The hour is 0 to 23 and the part 0 to 1,079.
+pub molad-promised :
+    (h code : ℕ) →
+    Promised (λ (r : MoladAnswer). r .refusal) (InYears h else 1 ∷ IsMonth (leap h) code else 2 ∷ [])
+    (λ r.
+    ((r .day ≡ moladDay h code) × ((r .hour ≡ moladTime h code / 1080) × (r .part ≡ moladTime h code % 1080)))
+    × ((r .hour ≤ 23) × (r .part ≤ 1079)))
+    (λ n r. (r .day ≡ 0) × ((r .hour ≡ 0) × (r .part ≡ 0)))
+    (moladAnswer h code)
+unfolding moladAnswer moladTime
+molad-promised h code =
+    asks (noMolad 1) (ranged 1 lastYear h) (omega arith) refl (refl, (refl, refl)) (λ _.
+    asks (noMolad 2) (months-caught (leap h) code) (omega arith) refl (refl, (refl, refl)) (λ _.
+    answered refl ((refl, (refl, refl)), omega arith)))
+
+-- One answer, and one result of each step.
 pub molad-one : (h code : ℕ) (r s : MoladAnswer) → r ≡ moladAnswer h code → s ≡ moladAnswer h code → r ≡ s
 molad-one h code = one-result (moladAnswer h code)
 
--- An hour is 0 to 23 and a part 0 to 1,079, in every answer.
-pub on-the-clock : (h code : ℕ) → (moladAnswer h code .hour ≤ 23) × (moladAnswer h code .part ≤ 1079)
-unfolding moladAnswer moladTime
-on-the-clock h code = go (outOfYears h) (noMonth (leap h) code)
-  where
-    go : (a b : Bool) → let r = cond a (noMolad 1) (cond b (noMolad 2) (moladOn h code)) in (r .hour ≤ 23) × (r .part ≤ 1079)
-    go true b = omega arith
-    go false true = omega arith
-    go false false = omega arith
+pub months-before-one : (h : ℕ) (r s : Months) → IsMonths h r → IsMonths h s → r ≡ s
+months-before-one h r s p q =
+    λ i. record {
+      months = (p .0 ∙ sym (q .0)) i;
+      leap = (p .1 .0 ∙ sym (q .1 .0)) i;
+      «after_leap» = (p .1 .1 .0 ∙ sym (q .1 .1 .0)) i;
+    }
+
+pub molad-after-one : (months : ℕ) (r s : Molad) → IsMolad months r → IsMolad months s → r ≡ s
+molad-after-one months r s p q = λ i. record { day = (p .0 ∙ sym (q .0)) i; time = (p .1 .0 ∙ sym (q .1 .0)) i }

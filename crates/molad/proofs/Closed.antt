@@ -1,4 +1,4 @@
--- The months before a year in closed form, for every year from 1 on; and leap years by what that division leaves.
+-- The months before a year in closed form, for every year from 1 on; and leap years by the remainder of that division.
 use mathlib.Core.Path.{_≡_, refl}
 use mathlib.Core.Bool.{Bool, true, false, not, cond, _&&_, Bool·beq}
 use mathlib.Core.List.{List, [], _∷_}
@@ -43,7 +43,18 @@ pub months-closed : (h : ℕ) → 1 ≤ h → monthsBefore h ≡ (235 * h - 234)
 unfolding monthsBefore
 months-closed h p = omega (arith, months-to (h - 1))
 
--- What the division leaves is 12 or more in leap years, and below 7 after a leap year: the test, in one cycle.
+-- The remainder of the months before a year.
+abbrev pub remainder : ℕ → ℕ
+remainder h = (235 * h - 234) % 19
+
+-- By the year's place in the cycle of 19.
+pub remainder-cycle : (h : ℕ) → 1 ≤ h → remainder h ≡ (235 * (h % 19) + 13) % 19
+remainder-cycle h l =
+    let e : 235 * h + 13 ≡ 19 * 13 + (235 * h - 234) = omega arith in
+    let m : (235 * h + 13) % 19 ≡ remainder h = rw e (mul-add-mod-self-left 19 13 (235 * h - 234)) in
+    rw (← m) (cycle-mod 235 13 19 h)
+
+-- It is 12 or more in leap years, and below 7 after a leap year: the test, in one cycle.
 leaps : ℕ → List Bool
 leaps r = Bool·beq (leb 12 ((235 * r + 13) % 19)) (leap r) ∷ Bool·beq (ltb ((235 * r + 13) % 19) 7) (leap (r + 18)) ∷ []
 
@@ -55,15 +66,13 @@ leap-place : (a b : ℕ) → a % 19 ≡ b % 19 → leap a ≡ leap b
 unfolding leap
 leap-place a b e = rw e
 
-pub leap-left : (h : ℕ) → 1 ≤ h → (leb 12 ((235 * h - 234) % 19) ≡ leap h) × (ltb ((235 * h - 234) % 19) 7 ≡ leap (h - 1))
+pub leap-remainder : (h : ℕ) → 1 ≤ h → (leb 12 (remainder h) ≡ leap h) × (ltb (remainder h) 7 ≡ leap (h - 1))
 unfolding leaps
-leap-left h l =
+leap-remainder h l =
     let this = leap-place h (h % 19) (omega arith) in
     let before = leap-place (h - 1) (h % 19 + 18) (omega arith) in
     let t = facts (leaps (h % 19)) (at 0 19 (λ r. all (leaps r)) leaps-all (h % 19) (omega arith) (omega arith)) in
-    let e : 235 * h + 13 ≡ 19 * 13 + (235 * h - 234) = omega arith in
-    let m : (235 * h + 13) % 19 ≡ (235 * h - 234) % 19 = rw e (mul-add-mod-self-left 19 13 (235 * h - 234)) in
-    rw (← m, cycle-mod 235 13 19 h, this, before) (beq-true _ _ (t .0), beq-true _ _ (t .1 .0))
+    rw (remainder-cycle h l, this, before) (beq-true _ _ (t .0), beq-true _ _ (t .1 .0))
 
 -- The months of a year before a code: one less than the code, and one less again past code 6 of a common year.
 codes : (isLeap : Bool) → every 1 13 (λ c. eqb (monthsOfYearBefore isLeap c + cond (ltb 6 c && not isLeap) 2 1) c) ≡ true

@@ -2,3 +2,4 @@ pub mod Units
 pub mod Years
 pub mod Molad
 pub mod Answers
+pub mod Steps

@@ -1,6 +1,7 @@
 -- The molad. The first is Monday 5 hours 204 parts, on J 347,998; each later one comes a month after the one before it.
-use mathlib.Core.Bool.{Bool, _&&_, _||_, not, cond}
-use Prim.Native.Nat.{ℕ, zero, suc, _+_, _*_, _/_, _%_}
+use mathlib.Core.Path.{_≡_}
+use mathlib.Core.Bool.{Bool, true, _&&_, _||_, not, cond}
+use Prim.Native.Nat.{ℕ, zero, suc, _+_, _*_, _/_, _%_, _≤_}
 use lib.Dec.{eqb}
 use Rattle.laws.specs.Runs.{outside}
 use Rattle.molad.specs.Units.{partsInDay, partsInMonth, time}
@@ -8,6 +9,9 @@ use Rattle.molad.specs.Years.{leap, monthsBefore}
 
 -- Month codes: 1 Tishri, 2 Marheshvan, 3 Kislev, 4 Tevet, 5 Shevat, 6 Adar I, 7 Adar or Adar II, 8 Nisan, 9 Iyar,
 -- 10 Sivan, 11 Tammuz, 12 Av, 13 Elul. Code 6 is a month of leap years only.
+abbrev pub IsMonth : Bool → ℕ → Type 0
+IsMonth isLeap code = ((1 ≤ code) × (code ≤ 13)) × (code ≡ 6 → isLeap ≡ true)
+
 unfoldable pub noMonth : Bool → ℕ → Bool
 noMonth isLeap code = outside 1 13 code || (eqb code 6 && not isLeap)
 

@@ -1,15 +1,27 @@
 -- Leap years, and the months before a year: 13 for each leap year and 12 for each other year, added up.
 use mathlib.Core.Bool.{Bool, cond}
 use mathlib.Core.List.{List, [], _∷_}
-use Prim.Native.Nat.{ℕ, zero, suc, _+_, _-_, _%_}
+use Prim.Native.Nat.{ℕ, zero, suc, _+_, _-_, _%_, _≤_}
 use Rattle.laws.specs.Runs.{elem, outside}
 
 -- The Hebrew years covered are 1 to 9999; New Year, by either route, also takes 10,000.
+abbrev pub lastYear : ℕ
+lastYear = 9999
+
+abbrev pub InYears : ℕ → Type 0
+InYears h = (1 ≤ h) × (h ≤ lastYear)
+
 abbrev pub outOfYears : ℕ → Bool
-outOfYears h = outside 1 9999 h
+outOfYears h = outside 1 lastYear h
+
+abbrev pub lastNewYear : ℕ
+lastNewYear = 10000
+
+abbrev pub InNewYears : ℕ → Type 0
+InNewYears h = (1 ≤ h) × (h ≤ lastNewYear)
 
 abbrev pub outOfNewYears : ℕ → Bool
-outOfNewYears h = outside 1 10000 h
+outOfNewYears h = outside 1 lastNewYear h
 
 -- A year is leap when H mod 19 is one of these.
 unfoldable pub leap : ℕ → Bool

@@ -1,7 +1,6 @@
 // The months before a year.
-ghost use mathlib.Core.Path.{_≡_};
-ghost use Prim.Native.Nat.{_≤_, _-_};
-ghost use Rattle.molad.specs.Years.{leap, monthsBefore};
+ghost use Prim.Native.Nat.{_≤_};
+ghost use Rattle.molad.specs.Steps.{IsMonths};
 
 // The Hebrew years covered are 1 to 9999; New Year is answered for one more.
 pub const LAST_YEAR: u64 = 9_999;
@@ -25,14 +24,14 @@ const WHOLE: u64 = 33_554_432;
 // A step, for the years 1 to 10,001. The division by 19 is a product and a shift.
 pub fn months_before(year: u64) -> Months
     requires { ⌜ (1 ≤ year) × (year ≤ 10001) ⌝ }
-    ensures { λ r. ⌜ (r .months ≡ monthsBefore year) × ((r .leap ≡ leap year) × ((r .«after_leap» ≡ leap (year - 1)) × (r .months ≤ 123700))) ⌝ }
+    ensures { λ r. ⌜ IsMonths year r ⌝ }
 {
     let scaled = 235 * year - 234;
     let months = scaled * NINETEENTH / WHOLE;
-    let left = scaled - 19 * months;
+    let remainder = scaled - 19 * months;
     Months {
         months,
-        leap: 12 <= left,
-        after_leap: left < 7,
+        leap: 12 <= remainder,
+        after_leap: remainder < 7,
     }
 }

@@ -1,8 +1,6 @@
 // The molad that a number of months come before.
-ghost use mathlib.Core.Path.{_≡_};
-ghost use Prim.Native.Nat.{_≤_, _<_, _/_, _%_};
-ghost use Rattle.molad.specs.Units.{partsInDay};
-ghost use Rattle.molad.specs.Molad.{moladAfter};
+ghost use Prim.Native.Nat.{_≤_};
+ghost use Rattle.molad.specs.Steps.{IsMolad};
 
 pub struct Molad {
     pub day: u64,
@@ -13,7 +11,7 @@ pub struct Molad {
 // A step, for the months of the years 1 to 10,001. Only what a month has beyond 29 days is divided.
 pub fn molad_after(months: u64) -> Molad
     requires { ⌜ months ≤ 123713 ⌝ }
-    ensures { λ r. ⌜ (r .day ≡ moladAfter months / partsInDay) × ((r .time ≡ moladAfter months % partsInDay) × ((r .day ≤ 4001400) × (r .time < partsInDay))) ⌝ }
+    ensures { λ r. ⌜ IsMolad months r ⌝ }
 {
     let parts = 5604 + 13753 * months;
     Molad {

@@ -1,10 +1,10 @@
--- The quotient is the counted months; what it leaves tells the leap years.
+-- The quotient is the counted months; the remainder tells the leap years.
 use borrow.Author.Needs.{needs}
 use mathlib.Core.Path.{_≡_}
 use Prim.Native.Nat.{_*_, _-_, _/_, _%_}
 use native.Mathlib.Omega.{arith}
 use Rattle.laws.proofs.Shifts.{nineteenths}
-use Rattle.molad.proofs.Closed.{months-closed, leap-left}
+use Rattle.molad.proofs.Closed.{months-closed, leap-remainder}
 use Rattle.molad.proofs.months.months_before.Statement.{statement}
 use Rattle.molad.proofs.months.months_before.Tie as tie
 
@@ -12,9 +12,9 @@ returns : tie.Need-returns
 returns c =
     let h = c .args .year in
     let x = 235 * h - 234 in
-    let l = leap-left h (omega arith) in
-    let left : x - 19 * (x / 19) ≡ x % 19 = omega arith in
-    rw (nineteenths x (omega arith), left) (rw (months-closed h (omega arith)), (l .0, (l .1, omega arith)))
+    let l = leap-remainder h (omega arith) in
+    let remainder : x - 19 * (x / 19) ≡ x % 19 = omega arith in
+    rw (nineteenths x (omega arith), remainder) (rw (months-closed h (omega arith)), (l .0, (l .1, omega arith)))
 
 pub months-before-spec : {M : Type 1} → statement M
 months-before-spec =

@@ -1,0 +1,86 @@
+-- How an answer's promise is shown: by what it tests, one test after another.
+use mathlib.Core.Path.{_≡_, refl, sym, _∙_}
+use mathlib.Core.Bool.{Bool, true, false, _||_, cond, false≢true}
+use mathlib.Core.List.{List, [], _∷_}
+use mathlib.Core.Logic.{_⊎_, inl, inr, ⊎-elim}
+use Prim.Native.Nat.{ℕ, _≤_}
+use native.Mathlib.Omega.{arith}
+use borrow.Author.Tests.{le-ltb}
+use Rattle.laws.specs.Runs.{outside}
+use Rattle.laws.specs.Promise.{Asked, FirstUnmet, Unmet, Rising, Promised}
+use Rattle.laws.proofs.Tests.{within}
+
+-- A test that catches what is not met.
+pub record Catches (test : Bool) (met : Type 0) : Type 0 where
+  pub passes : test ≡ false → met
+  pub catches : test ≡ true → ¬ met
+
+-- What lies outside a range is caught.
+pub ranged : (a b x : ℕ) → Catches (outside a b x) ((a ≤ x) × (x ≤ b))
+ranged a b x =
+    record {
+      passes = within a b x;
+      catches = λ e m. false≢true (rw (le-ltb x a (m .0), le-ltb b x (m .1)) at e);
+    }
+
+-- Two things are asked together.
+pub either : {s t : Bool} {M N : Type 0} → Catches s M → Catches t N → Catches (s || t) (M × N)
+either {s} {t} {M} {N} p q = go s t p q
+  where
+    go : (s t : Bool) → Catches s M → Catches t N → Catches (s || t) (M × N)
+    go true t p q = record { passes = λ e. absurd (false≢true (sym e)); catches = λ _ m. p .catches refl (m .0) }
+    go false t p q = record { passes = λ e. (p .passes refl, q .passes e); catches = λ e m. q .catches e (m .1) }
+
+module _ {A : Type 0} {number : A → ℕ} {Values : A → Type 0} {Besides : ℕ → A → Type 0} where
+  -- Nothing is asked: the answer is done.
+  pub answered : {r : A} → number r ≡ 0 → Values r → Promised number [] Values Besides r
+  answered z v =
+      record {
+        done = (λ _. tt, λ _. z);
+        values = λ _. v;
+        refused = λ n l. (λ e. absurd (omega arith), λ e. absurd e);
+        besides = λ n e. absurd e;
+      }
+
+  -- One thing is asked before the others, whose promise may take it for met.
+  by-test :
+      {a : Asked} {asked : List Asked} (x r : A) (test : Bool) → (test ≡ false → a .met) → (test ≡ true → ¬ a .met) →
+      1 ≤ a .refusal → number x ≡ a .refusal → Besides (a .refusal) x →
+      (a .met → Promised number asked Values Besides r) → Promised number (a ∷ asked) Values Besides (cond test x r)
+  by-test x r true p c l e z f =
+      let no = c refl in
+      record {
+        done = (λ d. absurd (omega arith), λ m. absurd (no (m .0)));
+        values = λ m. absurd (no (m .0));
+        refused = λ n k. (λ d. inl (no, sym e ∙ d), ⊎-elim (λ u. e ∙ u .1) (λ u. absurd (no (u .0))));
+        besides = λ n. ⊎-elim (λ u. rw (u .1) at z) (λ u. absurd (no (u .0)));
+      }
+  by-test x r false p c l e z f =
+      let yes = p refl in
+      let later = f yes in
+      record {
+        done = (λ d. (yes, later .done .0 d), λ m. later .done .1 (m .1));
+        values = λ m. later .values (m .1);
+        refused = λ n k. (λ d. inr (yes, later .refused n k .0 d), ⊎-elim (λ u. absurd (u .0 yes)) (λ u. later .refused n k .1 (u .1)));
+        besides = λ n. ⊎-elim (λ u. absurd (u .0 yes)) (λ u. later .besides n (u .1));
+      }
+
+  pub asks :
+      {a : Asked} {asked : List Asked} {r : A} {test : Bool} (x : A) → Catches test (a .met) →
+      1 ≤ a .refusal → number x ≡ a .refusal → Besides (a .refusal) x →
+      (a .met → Promised number asked Values Besides r) → Promised number (a ∷ asked) Values Besides (cond test x r)
+  asks {r} {test} x t = by-test x r test (t .passes) (t .catches)
+
+-- Where the numbers rise the first that is not met is the smallest.
+not-below : (asked : List Asked) (m n : ℕ) → Rising m asked → Unmet asked n → m ≤ n
+not-below [] m n r u = absurd u
+not-below (a ∷ asked) m n r u =
+    ⊎-elim (λ v. omega (arith, r .0, v .1)) (λ v. omega (arith, r .0, not-below asked (a .refusal) n (r .1) v)) u
+
+pub smallest : (asked : List Asked) (m n k : ℕ) → Rising m asked → FirstUnmet asked n → Unmet asked k → n ≤ k
+smallest [] m n k r f u = absurd f
+smallest (a ∷ asked) m n k r f u =
+    ⊎-elim
+    (λ g. ⊎-elim (λ v. omega (arith, g .1, v .1)) (λ v. omega (arith, g .1, not-below asked (a .refusal) k (r .1) v)) u)
+    (λ g. ⊎-elim (λ v. absurd (v .0 (g .0))) (λ v. smallest asked (a .refusal) n k (r .1) (g .1) v) u)
+    f
