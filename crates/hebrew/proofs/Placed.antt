@@ -28,7 +28,7 @@ sums-rise len a zero p = absurd (omega arith)
 sums-rise len a (suc b) p =
     by-cases (ℕ-discrete a b) (λ q. rw q (omega arith)) (λ q. omega (arith, sums-rise len a b (omega arith)))
 
-sums-row : (len a b : ℕ) → 1 ≤ a → a ≤ b → b ≤ 13 → daysBefore len a ≤ daysBefore len b
+pub sums-row : (len a b : ℕ) → 1 ≤ a → a ≤ b → b ≤ 13 → daysBefore len a ≤ daysBefore len b
 sums-row len a b l p u = by-cases (ℕ-discrete a b) (λ q. rw q (omega arith)) (λ q. omega (arith, sums-rise len a b (omega arith)))
 
 -- Day x of a year, counted from 0, lies in the month.
