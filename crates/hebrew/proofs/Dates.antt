@@ -4,13 +4,12 @@ use mathlib.Core.Bool.{Bool, true, false, cond}
 use Prim.Native.Nat.{ℕ, _+_, _-_, _≤_, _<_}
 use native.Mathlib.Omega.{arith}
 use lib.Dec.{leb}
-use Rattle.days.specs.Range.{firstDay, lastDay}
+use Rattle.days.specs.Range.{firstDay, lastDay, InRange}
 use Rattle.molad.specs.Years.{leap}
 use Rattle.molad.specs.Molad.{IsMonth}
 use Rattle.newyear.specs.NewYear.{newYear, yearLength, yearOf}
 use Rattle.newyear.proofs.Lengths.{rises, length-in, length-leap}
-use Rattle.newyear.proofs.Rise.{rise-le}
-use Rattle.newyear.proofs.YearOf.{InYear, held, year-is, first, last}
+use Rattle.newyear.proofs.YearOf.{InYear, held, year-is, year-in-range}
 use Rattle.hebrew.specs.Months.{monthLength, daysBefore}
 use Rattle.hebrew.specs.Dates.{Date, GoodHebrewDate, dayNumber, monthOf, dateOf}
 use Rattle.hebrew.proofs.Placed.{InMonth, month-is, month-holds, months-whole, sums-rise}
@@ -20,7 +19,7 @@ pub months-add-up : (h : ℕ) → 1 ≤ h → h ≤ 9999 → daysBefore (yearLen
 months-add-up h l u = months-whole (yearLength h) (length-in h l (omega arith))
 
 -- A month that holds a day is a month of the year: a common year's code 6 has no days.
-adar-one : (b : Bool) (d x : ℕ) → d ≤ x → x < d + cond b 30 0 → b ≡ true
+pub adar-one : (b : Bool) (d x : ℕ) → d ≤ x → x < d + cond b 30 0 → b ≡ true
 adar-one true d x p q = refl
 adar-one false d x p q = absurd (omega arith)
 
@@ -56,7 +55,7 @@ module _ (j : ℕ) (lo : firstDay ≤ j) (hi : j ≤ lastDay) where
 
 -- Every good date is the date of its day, which lies in range.
 module _ (x : Date) (g : GoodHebrewDate x) where
-  in-its-year : InYear (dayNumber x) (x .year)
+  pub in-its-year : InYear (dayNumber x) (x .year)
   unfolding dayNumber yearLength
   in-its-year =
       let h = x .year in
@@ -65,12 +64,8 @@ module _ (x : Date) (g : GoodHebrewDate x) where
       let s = sums-rise (yearLength h) (x .month) 14 (omega (arith, g .of-year .0)) in
       record { low = g .of-years .0; high = g .of-years .1; from = omega arith; before = omega arith }
 
-  pub day-in-range : (firstDay ≤ dayNumber x) × (dayNumber x ≤ lastDay)
-  day-in-range =
-      let y = in-its-year in (
-        omega (arith, first, rise-le 1 (x .year) (omega arith) (y .low) (omega arith)),
-        omega (arith, last, rise-le (x .year + 1) 10000 (omega arith) (omega arith) (omega arith)),
-      )
+  pub day-in-range : InRange (dayNumber x)
+  day-in-range = year-in-range (dayNumber x) (x .year) in-its-year
 
   in-its-month : InMonth (yearLength (x .year)) (dayNumber x - newYear (x .year)) (x .month)
   unfolding dayNumber
