@@ -11,7 +11,7 @@ use lib.Dec.{eqb}
 use Rattle.laws.specs.Runs.{every, eachOf}
 use Rattle.laws.proofs.Tests.{of, of-at, all, Each, facts}
 use Rattle.laws.proofs.One.{one-result}
-use Rattle.laws.proofs.Counted.{begun-is}
+use Rattle.laws.proofs.Counted.{begun-is, begun-few}
 use Rattle.newyear.specs.Kinds.{lengths, IsLength}
 use Rattle.hebrew.specs.Months.{monthLength, daysBefore}
 use Rattle.hebrew.specs.Dates.{monthOf}
@@ -41,6 +41,11 @@ month-quick len x e u =
     (λ p.
     let q : x ≡ len = omega arith in
     rw q (elul-on len len (omega (arith, months-whole len e, sums-rise len 13 14 (omega arith))) ∙ sym (eqb-true _ _ (of lengths elul elul-all len (e .among)))))
+
+-- How large the numbers of a date are.
+pub date-small : (len x : ℕ) → IsLength len → x ≤ len → let date = yearDate len x in (date .after ≤ 400) × ((date .month ≤ 13) × (date .day ≤ 400))
+unfolding yearDate monthOf
+date-small len x e u = let m = begun-few (daysBefore len) 13 x in omega arith
 
 quickDate : ℕ → ℕ → YearDate
 quickDate len x = record { after = x; month = monthFrom len x; day = x - daysBefore len (monthFrom len x) + 1 }

@@ -6,7 +6,9 @@ use native.Mathlib.Omega.{arith}
 use native.Mathlib.Numerals.{add-one}
 use native.Mathlib.Decide.{ℕ-discrete}
 use borrow.Author.Tests.{le-leb, lt-leb}
+use lib.Dec.{leb}
 use Rattle.laws.specs.Begun.{begun}
+use Rattle.laws.proofs.Tests.{cond-le}
 
 -- From 1 to n the row never falls.
 abbrev pub NeverFalls : (ℕ → ℕ) → ℕ → Type 0
@@ -38,3 +40,9 @@ none-more f n j h (suc k) r i p u =
 
 pub begun-is : (f : ℕ → ℕ) (n j h : ℕ) → NeverFalls f n → Last f n j h → begun f n j ≡ h
 begun-is f n j h r i = none-more f n j h n r i (i .within) (omega arith)
+
+-- No more have begun than there are.
+pub begun-few : (f : ℕ → ℕ) (n j : ℕ) → begun f n j ≤ n
+unfolding begun
+begun-few f zero j = omega arith
+begun-few f (suc n) j = omega (arith, begun-few f n j, cond-le (leb (f (suc n)) j) 1 0 1 (omega arith) (omega arith))

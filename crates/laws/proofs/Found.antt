@@ -4,9 +4,11 @@ use mathlib.Core.Bool.{Bool, true, false, not, cond}
 use mathlib.Core.Logic.{by-cases}
 use Prim.Native.Nat.{ℕ, zero, suc, _+_, _-_, _≤_, _<_}
 use native.Mathlib.Omega.{arith}
-use native.Mathlib.Decide.{ℕ-discrete}
+use native.Mathlib.Decide.{ℕ-discrete, decLt}
+use borrow.Author.Tests.{not-true, not-false}
 use native.Mathlib.Numerals.{add-one}
 use Rattle.laws.specs.Search.{seek, seekNot, runStart, Run}
+use Rattle.laws.proofs.Tests.{clash}
 
 -- One step of a search.
 pub seek-here : (p : ℕ → Bool) (n j : ℕ) → p j ≡ true → seek p (suc n) j ≡ j
@@ -75,3 +77,44 @@ module _ (p : ℕ → Bool) (first count k n : ℕ) (r : Run p first count) (l :
 
   pub run-ends : first + count < k + n → seekNot p n k ≡ first + count
   run-ends h = seek-not-is p n k (first + count) (λ d a b. r .passes d (omega arith) b) (r .after) (omega arith) h
+
+-- What the start of a run tells: it is no later than the run's end, all from it on pass, and the one before it fails.
+pub record Started (p : ℕ → Bool) (k s : ℕ) : Type 0 where
+  pub high : s ≤ k
+  pub passes : (d : ℕ) → s ≤ d → d < k → p d ≡ true
+  pub before : 1 ≤ s → p (s - 1) ≡ false
+
+pub start-tells : (p : ℕ → Bool) (k : ℕ) → Started p k (runStart p k)
+unfolding runStart
+start-tells p zero = record { high = omega arith; passes = λ d a b. absurd (omega arith); before = λ h. absurd (omega arith) }
+start-tells p (suc k) = step (p k) refl (start-tells p k)
+  where
+    step : (b : Bool) → p k ≡ b → Started p k (runStart p k) → Started p (suc k) (cond b (runStart p k) (suc k))
+    step true e t =
+        record {
+          high = omega (arith, t .high);
+          passes = λ d a b. by-cases (ℕ-discrete d k) (λ q. rw q e) (λ q. t .passes d a (omega arith));
+          before = t .before;
+        }
+    step false e t = record { high = omega arith; passes = λ d a b. absurd (omega arith); before = λ _. let z : suc k - 1 ≡ k = omega arith in rw z e }
+
+-- The run around a pass n: from its start to the first failure, where that is found.
+pub run-around : (p : ℕ → Bool) (n m : ℕ) → p n ≡ true → 1 ≤ runStart p n → seekNot p m n < n + m → (n < seekNot p m n) × Run p (runStart p n) (seekNot p m n - runStart p n)
+unfolding seekNot
+run-around p n m e o h =
+    let s = runStart p n in
+    let k = seekNot p m n in
+    let t = start-tells p n in
+    let f = seek-tells (λ d. not (p d)) m n in
+    let fails : p k ≡ false = not-true (p k) (f .pass h) in
+    let far : n < k = by-cases (ℕ-discrete n k) (λ q. absurd (clash (p k) (rw q at e) fails)) (λ q. omega (arith, f .low)) in
+    let z : s + (k - s) ≡ k = omega (arith, t .high) in (
+      far,
+      record {
+        some = omega (arith, t .high);
+        passes =
+            λ d a b. by-cases (decLt d n) (λ q. t .passes d a q) (λ q. not-false (p d) (f .none d (omega arith) (omega (arith, t .high))));
+        before = t .before o;
+        after = rw z fails;
+      },
+    )

@@ -93,8 +93,8 @@ module _ (h : ℕ) (l : 1 ≤ h) (u : h ≤ 9999) where
         in-order = λ i p. rw (days-at table h i p) (date-back _ (row-date _ (good-row len _ (each-at table (rowGood len) good i p))));
         rests =
             λ j e.
-                let i = of-the-year table good j e in
-                (i, rw (let-pass (ranged firstDay lastDay j) (year-in-range j h i), sym (listed table good j i) ∙ e, or-true));
+            let i = of-the-year table good j e in
+            (i, rw (let-pass (ranged firstDay lastDay j) (year-in-range j h i), sym (listed table good j i) ∙ e, or-true));
         dated = listed table good;
         no-other = λ j i. rw (let-pass (ranged firstDay lastDay j) (year-in-range j h i), listed table good j i);
       }

@@ -12,9 +12,9 @@ ghost use Rattle.laws.specs.Runs.{eachOf};
 ghost use Rattle.laws.specs.Buffer.{overwrite};
 ghost use Rattle.newyear.specs.Spans.{Spans};
 ghost use Rattle.rest.specs.Table.{restTable, restDays};
-ghost use Rattle.rest.specs.Check.{rowGood, passes};
+ghost use Rattle.rest.specs.Check.{rowGood};
 ghost use Rattle.rest.specs.Answers.{restDaysAnswer, restDaysBuffer};
-pub use table::REST_TABLE;
+use table::REST_TABLE;
 pub use table::ROWS;
 pub use table::rest_on;
 
@@ -37,10 +37,10 @@ fn write_days(table: &[u64], span: newyear::Span, out: &mut [u64])
     }
 }
 
-// The list of any table of rest days that passes the check.
-fn days_of(table: &[u64], year: u64, out: &mut [u64]) -> ListAnswer
-    requires { ⌜ passes (now table) ≡ true ⌝ }
-    ensures { λ r. ⌜ (r ≡ restDaysAnswer (now (table .entry)) year (now (out .entry))) × (now (out .exit) ≡ restDaysBuffer (now (table .entry)) year (now (out .entry))) ⌝ }
+// The day numbers of the year's rest days, in table order. Refusal 1 for a year outside 1..9999; 10 for a buffer of fewer
+// entries than the table has rows, which it leaves as it was.
+pub fn rest_days(year: u64, out: &mut [u64]) -> ListAnswer
+    ensures { λ r. ⌜ (r ≡ restDaysAnswer restTable year (now (out .entry))) × (now (out .exit) ≡ restDaysBuffer restTable year (now (out .entry))) ⌝ }
 {
     if (year < 1) | (molad::LAST_YEAR < year) {
         return ListAnswer {
@@ -48,24 +48,16 @@ fn days_of(table: &[u64], year: u64, out: &mut [u64]) -> ListAnswer
             count: 0,
         };
     }
-    if out.len() < table.len() {
+    if out.len() < ROWS {
         return ListAnswer {
             refusal: 10,
-            count: table.len() as u64,
+            count: ROWS as u64,
         };
     }
-    write_days(table, newyear::year_span(year), out);
+    let table = REST_TABLE;
+    write_days(&table, newyear::year_span(year), out);
     ListAnswer {
         refusal: 0,
-        count: table.len() as u64,
+        count: ROWS as u64,
     }
-}
-
-// The day numbers of the year's rest days, in table order. Refusal 1 for a year outside 1..9999; 10 for a buffer of fewer
-// entries than the table has rows, which it leaves as it was.
-pub fn rest_days(year: u64, out: &mut [u64]) -> ListAnswer
-    ensures { λ r. ⌜ (r ≡ restDaysAnswer restTable year (now (out .entry))) × (now (out .exit) ≡ restDaysBuffer restTable year (now (out .entry))) ⌝ }
-{
-    let table = REST_TABLE;
-    days_of(&table, year, out)
 }

@@ -3,6 +3,7 @@ use hebrew::YearDate;
 ghost use mathlib.Core.Path.{_≡_};
 ghost use Prim.Native.Nat.{_≤_};
 ghost use Rattle.laws.specs.Runs.{elem};
+ghost use Rattle.rest.specs.Table.{restTable};
 ghost use Rattle.rest.specs.Steps.{restOn};
 
 // How many rows the table has.
@@ -26,12 +27,13 @@ fn among(table: &[u64], row: u64) -> bool
 }
 
 // A step, for dates of a year whose New Year falls on this weekday, which may be counted on past 7: is it a rest day?
-pub fn rest_on(table: &[u64], weekday: u64, date: YearDate) -> bool
+pub fn rest_on(weekday: u64, date: YearDate) -> bool
     requires { ⌜ (weekday ≤ 400) × ((date .after ≤ 400) × ((date .month ≤ 13) × (date .day ≤ 400))) ⌝ }
-    ensures { λ r. ⌜ r ≡ restOn (now (table .entry)) weekday date ⌝ }
+    ensures { λ r. ⌜ r ≡ restOn restTable weekday date ⌝ }
 {
     if (weekday + date.after) % 7 == 0 {
         return true;
     }
-    among(table, 100 * date.month + date.day)
+    let table = REST_TABLE;
+    among(&table, 100 * date.month + date.day)
 }

@@ -7,11 +7,9 @@ mod lists;
 mod runs;
 
 ghost use mathlib.Core.Path.{_≡_};
-ghost use mathlib.Core.Bool.{true};
 ghost use Prim.Native.Nat.{_≤_};
 ghost use lib.IntN.{subℕ};
 ghost use Rattle.rest.specs.Table.{restTable};
-ghost use Rattle.rest.specs.Check.{passes};
 ghost use Rattle.stretch.specs.Answers.{stretchAnswer, stretchesAnswer, stretchesBuffer};
 
 #[repr(C)]
@@ -30,10 +28,9 @@ fn days_left(first: u64, day: u64) -> i64
     (first as i64) - (day as i64)
 }
 
-// The stretch for a day, for any table of rest days that passes the check.
-fn stretch_of(table: &[u64], day: u64) -> StretchAnswer
-    requires { ⌜ passes (now table) ≡ true ⌝ }
-    ensures { λ r. ⌜ r ≡ stretchAnswer (now (table .entry)) day ⌝ }
+// Refusal 4 for a day outside the range; 9 where no stretch in range ends on or after the day.
+pub fn stretch(day: u64) -> StretchAnswer
+    ensures { λ r. ⌜ r ≡ stretchAnswer restTable day ⌝ }
 {
     if days::out_of_range(day) {
         return StretchAnswer {
@@ -45,7 +42,7 @@ fn stretch_of(table: &[u64], day: u64) -> StretchAnswer
     }
     let span = newyear::year_holding(day);
     let weekday = days::weekday_of(span.new_year);
-    let run = runs::run_for(table, weekday, span.length, day - span.new_year);
+    let run = runs::run_for(weekday, span.length, day - span.new_year);
     let first = span.new_year + run.first;
     if days::LAST_DAY < first {
         return StretchAnswer {
@@ -63,21 +60,14 @@ fn stretch_of(table: &[u64], day: u64) -> StretchAnswer
     }
 }
 
-// Refusal 4 for a day outside the range; 9 where no stretch in range ends on or after the day.
-pub fn stretch(day: u64) -> StretchAnswer
-    ensures { λ r. ⌜ r ≡ stretchAnswer restTable day ⌝ }
-{
-    let table = rest::REST_TABLE;
-    stretch_of(&table, day)
-}
-
-// A year has at most as many days as this, and its stretches take fewer entries.
+// The most days that a year has. Its stretches take no more entries than it has days.
 const MOST_DAYS: usize = 385;
 
-// The stretches of a year, for any table of rest days that passes the check.
-fn stretches_of(table: &[u64], year: u64, out: &mut [u64]) -> rest::ListAnswer
-    requires { ⌜ passes (now table) ≡ true ⌝ }
-    ensures { λ r. ⌜ (r ≡ stretchesAnswer (now (table .entry)) year (now (out .entry))) × (now (out .exit) ≡ stretchesBuffer (now (table .entry)) year (now (out .entry))) ⌝ }
+// First day and length of each stretch that begins in the year, rising, two entries each. Refusal 1 for a year outside
+// 1..9999; 10 for a buffer that is too short, telling how many entries are wanted; else the answer tells how many
+// stretches.
+pub fn stretches(year: u64, out: &mut [u64]) -> rest::ListAnswer
+    ensures { λ r. ⌜ (r ≡ stretchesAnswer restTable year (now (out .entry))) × (now (out .exit) ≡ stretchesBuffer restTable year (now (out .entry))) ⌝ }
 {
     if (year < 1) | (molad::LAST_YEAR < year) {
         return rest::ListAnswer {
@@ -88,7 +78,7 @@ fn stretches_of(table: &[u64], year: u64, out: &mut [u64]) -> rest::ListAnswer
     let span = newyear::year_span(year);
     let weekday = days::weekday_of(span.new_year);
     let mut rows = [0u64; MOST_DAYS];
-    let wanted = lists::write_rows(table, weekday, span.new_year, span.length, &mut rows);
+    let wanted = lists::write_rows(weekday, span.new_year, span.length, &mut rows);
     if out.len() < wanted {
         return rest::ListAnswer {
             refusal: 10,
@@ -100,14 +90,4 @@ fn stretches_of(table: &[u64], year: u64, out: &mut [u64]) -> rest::ListAnswer
         refusal: 0,
         count: wanted as u64 / 2,
     }
-}
-
-// First day and length of each stretch that begins in the year, rising, two entries each. Refusal 1 for a year outside
-// 1..9999; 10 for a buffer that is too short, telling how many entries are wanted; else the answer tells how many
-// stretches.
-pub fn stretches(year: u64, out: &mut [u64]) -> rest::ListAnswer
-    ensures { λ r. ⌜ (r ≡ stretchesAnswer restTable year (now (out .entry))) × (now (out .exit) ≡ stretchesBuffer restTable year (now (out .entry))) ⌝ }
-{
-    let table = rest::REST_TABLE;
-    stretches_of(&table, year, out)
 }

@@ -12,4 +12,5 @@ rest-on-spec =
     (search needs)
     (search needs)
     (search needs)
-    (λ c. rw (ne-eqb _ _ (c .before .before .before .if1 .left)) (c .among .ensures)))
+    (search needs)
+    (λ c. rw (ne-eqb _ _ (c .before .before .before .before .if1 .left)) (c .among .ensures)))

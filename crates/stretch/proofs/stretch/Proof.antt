@@ -1,0 +1,83 @@
+-- The answer worked out in the year that holds the day.
+use borrow.Author.Needs.{needs}
+use mathlib.Core.Path.{_≡_, sym, _∙_}
+use mathlib.Core.Bool.{cond}
+use Prim.Native.Nat.{_+_, _-_, _≤_, _<_}
+use native.Mathlib.Omega.{arith}
+use borrow.Author.Tests.{lt-ltb, le-ltb}
+use lib.Dec.{ltb}
+use mir.Syntax.{w64}
+use mir.Val.{toZ, ofZ}
+use Rattle.days.specs.Range.{lastDay, InRange}
+use Rattle.days.proofs.InRange.{in-range}
+use Rattle.newyear.specs.NewYear.{newYear, yearLength, yearOf}
+use Rattle.newyear.proofs.Spanned.{span-holds}
+use Rattle.rest.specs.Table.{restTable}
+use Rattle.rest.proofs.Passed.{table-passes}
+use Rattle.stretch.specs.Answers.{noStretch, stretchOn, stretchAnswer}
+use Rattle.stretch.proofs.Answered.{worked-out}
+use Rattle.stretch.proofs.stretch.Statement.{statement}
+use Rattle.stretch.proofs.stretch.Tie as tie
+
+ranged : (c : tie.Else1) → InRange (c .before .before .args .day)
+ranged c = in-range _ (c .before .out-of-range .ensures) (c .if1 .left)
+
+inside :
+    (c : tie.After-year-holding) →
+    let s = c .year-holding .result in
+    let j = c .before .before .before .args .day in (s .«new_year» ≤ j) × (j < s .«new_year» + s .length)
+inside c = span-holds _ _ (ranged (c .before)) (c .year-holding .ensures)
+
+-- What the run says of the day.
+answered :
+    (c : tie.After-run-for) →
+    let s = c .before .before .before in
+    let j = s .before .before .before .args .day in
+    let first = s .year-holding .result .«new_year» + c .run-for .result .first in
+    let past = s .year-holding .result .«new_year» + c .run-for .result .past in
+    stretchAnswer restTable j ≡ cond (ltb lastDay first) (noStretch 9) (stretchOn j first past)
+answered c =
+    let w = c .before .before in
+    let s = w .before in
+    let e = s .year-holding .ensures in
+    let j = s .before .before .before .args .day in
+    let h = yearOf j in
+    let i = inside s in
+    let x : newYear h + (j - newYear h) ≡ j = omega (arith, e .begins) in
+    let d : j - newYear h < yearLength h = omega (arith, e .begins, e .days) in
+    rw (c .run-for .ensures .0 .0, c .run-for .ensures .0 .1, w .weekday-of .ensures, e .begins, e .days)
+    (rw x at (worked-out restTable table-passes h (e .first) (e .last) (j - newYear h) d))
+
+returns : tie.Need-returns
+unfolding stretchAnswer
+returns c = rw (← c .before .out-of-range .ensures, c .if1 .taken)
+
+returns-2 : tie.Need-returns-2
+returns-2 c = rw (answered (c .before .before .before), lt-ltb lastDay _ (c .if2 .taken))
+
+returns-3 : tie.Need-returns-3
+returns-3 c =
+    let e = c .before .before in
+    let r = e .before .before .before in
+    let t : toZ w64 (ofZ w64 (c .days-left .result)) ≡ c .days-left .result = search needs in
+    let j = r .before .before .before .year-holding .result .«new_year» in
+    let n : j + r .run-for .result .past - (j + r .run-for .result .first) ≡ r .run-for .result .past - r .run-for .result .first = omega arith in
+    rw (answered r, le-ltb lastDay _ (e .if2 .left), t, c .days-left .ensures, n)
+
+pub stretch-spec : {M : Type 1} → statement M
+stretch-spec =
+    tie.close
+    (tie.spec
+    (search needs)
+    returns
+    (λ c κs. ranged c)
+    (search needs)
+    (λ c. inside (c .before .before) .0)
+    (λ c κs.
+    let s = c .before .before in
+    let i = inside s in (omega arith, (s .year-holding .ensures .measured, omega arith)))
+    (search needs)
+    returns-2
+    (λ c. c .before .before .before .before .run-for .ensures .1 .0)
+    (λ c κs. let r = ranged (c .before .before .before .before .before .before .before .before) in omega arith)
+    returns-3)

@@ -1,0 +1,58 @@
+-- What callers are told of a day, and given for a year, for a table.
+use mathlib.Core.Path.{_≡_}
+use mathlib.Core.Bool.{cond}
+use mathlib.Core.List.{List, [], _∷_}
+use Prim.Native.Nat.{ℕ, _+_, _*_, _≤_, _<_}
+use lib.Dec.{eqb}
+use lib.IntN.{pos, negsuc, _-ℤ_}
+use lib.ListN.{length}
+use lib.Signed.{_≤ℤ_}
+use Rattle.laws.specs.Promise.{_else_, Promised}
+use Rattle.laws.specs.Search.{Run}
+use Rattle.days.specs.Range.{InRange}
+use Rattle.molad.specs.Years.{InYears}
+use Rattle.newyear.specs.NewYear.{newYear}
+use Rattle.rest.specs.Table.{restDay}
+use Rattle.rest.specs.declared.ListAnswer.{ListAnswer}
+use Rattle.stretch.specs.Stretches.{StretchFor, stretchRows}
+use Rattle.stretch.specs.declared.StretchAnswer.{StretchAnswer}
+
+-- A stretch in range ends on day j or later.
+pub record StretchAhead (table : List ℕ) (j : ℕ) : Type 0 where
+  pub first : ℕ
+  pub count : ℕ
+  pub a-stretch : Run (restDay table) first count
+  pub not-over : j < first + count
+
+-- What `stretch` promises for day j.
+abbrev pub StretchPromise : List ℕ → ℕ → StretchAnswer → Type 0
+StretchPromise table j =
+    Promised (λ (r : StretchAnswer). r .refusal) (InRange j else 4 ∷ StretchAhead table j else 9 ∷ [])
+    (λ r.
+    StretchFor table j (r .first) (r .length)
+    × (((1 ≤ r .length) × (r .length ≤ 3))
+    × ((r .«days_left» ≡ pos (r .first) -ℤ pos j) × ((negsuc 1 ≤ℤ r .«days_left») × (r .«days_left» ≤ℤ pos 6)))))
+    (λ n r. (r .first ≡ 0) × ((r .length ≡ 0) × (r .«days_left» ≡ pos 0)))
+
+-- Two entries each: a stretch's first day and its length stand in the list.
+pub data Listed (first count : ℕ) : List ℕ → Type 0 where
+  here : {l : List ℕ} → Listed first count (first ∷ count ∷ l)
+  there : {a b : ℕ} {l : List ℕ} → Listed first count l → Listed first count (a ∷ b ∷ l)
+
+-- Rising: each first day comes after the one before it.
+abbrev pub Rising : ℕ → List ℕ → Type 0
+Rising from [] = Unit {0}
+Rising from (f ∷ []) = ⊥
+Rising from (f ∷ c ∷ l) = (from ≤ f) × Rising (f + 1) l
+
+-- Every stretch that begins in the year, no other, rising.
+pub record StretchesOf (table : List ℕ) (h : ℕ) (list : List ℕ) : Type 0 where
+  pub every : (f c : ℕ) → Run (restDay table) f c → newYear h ≤ f → f < newYear (h + 1) → Listed f c list
+  pub only : (f c : ℕ) → Listed f c list → Run (restDay table) f c × ((newYear h ≤ f) × (f < newYear (h + 1)))
+  pub rising : Rising (newYear h) list
+
+-- What `stretches` promises for year h: two entries for each stretch.
+abbrev pub StretchesPromise : List ℕ → ℕ → List ℕ → ListAnswer → Type 0
+StretchesPromise table h buffer =
+    Promised (λ (r : ListAnswer). r .refusal) (InYears h else 1 ∷ (length (stretchRows table h) ≤ length buffer) else 10 ∷ [])
+    (λ r. 2 * r .count ≡ length (stretchRows table h)) (λ n r. r .count ≡ cond (eqb n 10) (length (stretchRows table h)) 0)
