@@ -8,10 +8,10 @@ use Rattle.laws.specs.Promise.{_else_, Promised}
 use Rattle.laws.proofs.One.{one-result}
 use Rattle.laws.proofs.Promises.{ranged, asks, answered}
 use Rattle.days.specs.Range.{firstDay, lastDay, InRange}
-use Rattle.molad.specs.Years.{lastYear, InYears, lastNewYear, InNewYears, leap, monthsIn}
+use Rattle.molad.specs.Years.{lastYear, InYears, lastNewYear, InNewYears, outOfNewYears, leap, monthsIn}
 use Rattle.molad.specs.Molad.{moladDay, moladTime}
-use Rattle.newyear.specs.NewYear.{newYear, yearLength}
-use Rattle.newyear.specs.Answers.{noNewYear, newYearAnswer, yearAnswer, yearOfDayAnswer}
+use Rattle.newyear.specs.NewYear.{newYear, yearLength, yearOf}
+use Rattle.newyear.specs.Answers.{noNewYear, newYearOn, newYearAnswer, yearAnswer, yearOfDayAnswer}
 use Rattle.newyear.specs.Spans.{Spans}
 use Rattle.newyear.specs.Steps.{IsDelay}
 use Rattle.newyear.specs.declared.NewYearAnswer.{NewYearAnswer}
@@ -20,7 +20,7 @@ use Rattle.newyear.specs.declared.YearOfDayAnswer.{YearOfDayAnswer}
 use Rattle.newyear.specs.declared.span.Span.{Span}
 use Rattle.newyear.proofs.YearOf.{InYear, held}
 
--- What New Year of year h promises, by either route: its day j, and the molad's day and time.
+-- What the New Year of year h promises, by either route: its day j, and the molad's day and time t.
 abbrev pub NewYearPromised : ℕ → ℕ → ℕ → ℕ → NewYearAnswer → Type 0
 NewYearPromised h j moladJ t =
     Promised (λ (r : NewYearAnswer). r .refusal) (InNewYears h else 1 ∷ [])
@@ -29,11 +29,14 @@ NewYearPromised h j moladJ t =
     × ((r .«molad_day» ≡ moladJ) × ((r .«molad_hour» ≡ t / 1080) × (r .«molad_part» ≡ t % 1080))))
     (λ n r. (r .day ≡ 0) × ((r .weekday ≡ 0) × ((r .«molad_day» ≡ 0) × ((r .«molad_hour» ≡ 0) × (r .«molad_part» ≡ 0)))))
 
-pub new-year-promised : (h : ℕ) → NewYearPromised h (newYear h) (moladDay h 1) (moladTime h 1) (newYearAnswer h)
-unfolding newYearAnswer
-new-year-promised h =
+pub on-promised : (h j moladJ t : ℕ) → NewYearPromised h j moladJ t (cond (outOfNewYears h) (noNewYear 1) (newYearOn j moladJ t))
+on-promised h j moladJ t =
     asks (noNewYear 1) (ranged 1 lastNewYear h) (omega arith) refl (refl, (refl, (refl, (refl, refl)))) (λ _.
     answered refl ((refl, refl), (refl, (refl, refl))))
+
+pub new-year-promised : (h : ℕ) → NewYearPromised h (newYear h) (moladDay h 1) (moladTime h 1) (newYearAnswer h)
+unfolding newYearAnswer
+new-year-promised h = on-promised h (newYear h) (moladDay h 1) (moladTime h 1)
 
 pub year-promised :
     (h : ℕ) →
@@ -71,11 +74,13 @@ year-of-day-one j = one-result (yearOfDayAnswer j)
 pub delay-one : (w t : ℕ) (isLeap afterLeap : Bool) (r s : ℕ) → IsDelay w t isLeap afterLeap r → IsDelay w t isLeap afterLeap s → r ≡ s
 delay-one w t isLeap afterLeap r s p q = p .0 ∙ sym (q .0)
 
--- Of `year_span`, and of `year_holding` at the year that holds the day.
-pub span-one : (h : ℕ) (r s : Span) → Spans h r → Spans h s → r ≡ s
-span-one h r s p q =
+pub year-span-one : (h : ℕ) (r s : Span) → Spans h r → Spans h s → r ≡ s
+year-span-one h r s p q =
     λ i. record {
       year = (p .year ∙ sym (q .year)) i;
       «new_year» = (p .begins ∙ sym (q .begins)) i;
       length = (p .days ∙ sym (q .days)) i;
     }
+
+pub year-holding-one : (j : ℕ) (r s : Span) → Spans (yearOf j) r → Spans (yearOf j) s → r ≡ s
+year-holding-one j = year-span-one (yearOf j)
