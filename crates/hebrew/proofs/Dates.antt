@@ -1,42 +1,32 @@
 -- Each day in range has exactly one good Hebrew date, and each good date comes back to its own day.
 use mathlib.Core.Path.{_≡_, refl, ap, sym, _∙_}
 use mathlib.Core.Bool.{Bool, true, false, cond}
-use mathlib.Core.Logic.{by-cases}
 use Prim.Native.Nat.{ℕ, _+_, _-_, _≤_, _<_}
 use native.Mathlib.Omega.{arith}
-use native.Mathlib.Decide.{ℕ-discrete}
-use borrow.Author.Tests.{le-ltb, ne-eqb}
 use lib.Dec.{leb}
-use Rattle.days.specs.Range.{firstDay, lastDay}
+use Rattle.days.specs.Range.{firstDay, lastDay, InRange}
 use Rattle.molad.specs.Years.{leap}
-use Rattle.molad.specs.Molad.{noMonth}
+use Rattle.molad.specs.Molad.{IsMonth}
 use Rattle.newyear.specs.NewYear.{newYear, yearLength, yearOf}
 use Rattle.newyear.proofs.Lengths.{rises, length-in, length-leap}
-use Rattle.newyear.proofs.Rise.{rise-le}
-use Rattle.newyear.proofs.YearOf.{InYear, held, year-is, first, last}
+use Rattle.newyear.proofs.YearOf.{InYear, held, year-is, year-in-range}
 use Rattle.hebrew.specs.Months.{monthLength, daysBefore}
-use Rattle.hebrew.specs.Dates.{Date, Good, dayNumber, monthOf, dateOf}
-use Rattle.hebrew.proofs.Placed.{InMonth, month-is, month-holds, months-whole, sums-rise, code-range}
+use Rattle.hebrew.specs.Dates.{Date, GoodHebrewDate, dayNumber, monthOf, dateOf}
+use Rattle.hebrew.proofs.Placed.{InMonth, month-is, month-holds, months-whole, sums-rise}
 
 -- The months of a year add up to its length.
 pub months-add-up : (h : ℕ) → 1 ≤ h → h ≤ 9999 → daysBefore (yearLength h) 14 ≡ yearLength h
 months-add-up h l u = months-whole (yearLength h) (length-in h l (omega arith))
 
 -- A month that holds a day is a month of the year: a common year's code 6 has no days.
-adar-one : (b : Bool) (d x : ℕ) → d ≤ x → x < d + cond b 30 0 → b ≡ true
+pub adar-one : (b : Bool) (d x : ℕ) → d ≤ x → x < d + cond b 30 0 → b ≡ true
 adar-one true d x p q = refl
 adar-one false d x p q = absurd (omega arith)
 
-held-month : (len x code : ℕ) → InMonth len x code → noMonth (leb 383 len) code ≡ false
-unfolding noMonth monthLength
+held-month : (len x code : ℕ) → InMonth len x code → IsMonth (leb 383 len) code
+unfolding monthLength
 held-month len x code i =
-    let a = le-ltb code 1 (i .low) in
-    let b = le-ltb 13 code (i .high) in
-    by-cases (ℕ-discrete code 6)
-    (λ q.
-    let f : daysBefore len 6 ≤ x = rw q at (i .from) in
-    let t : x < daysBefore len 6 + cond (leb 383 len) 30 0 = rw q at (i .before) in rw (q, adar-one (leb 383 len) _ x f t))
-    (λ q. rw (a, b, ne-eqb code 6 q))
+    ((i .low, i .high), λ q. adar-one (leb 383 len) _ x (rw q at (i .from)) (rw q at (i .before)))
 
 -- Every day in range has a good date, whose day it is.
 module _ (j : ℕ) (lo : firstDay ≤ j) (hi : j ≤ lastDay) where
@@ -47,18 +37,16 @@ module _ (j : ℕ) (lo : firstDay ≤ j) (hi : j ≤ lastDay) where
   unfolding yearLength
   in-month = month-holds _ _ (length-in (yearOf j) (in-year .low) (omega (arith, in-year .high))) (omega (arith, in-year .from, in-year .before))
 
-  pub date-good : Good (dateOf j)
+  pub date-good : GoodHebrewDate (dateOf j)
   unfolding dateOf
   date-good =
       let y = in-year in
       let m = in-month in
       let k = held-month _ _ _ m in
       record {
-        year-low = y .low;
-        year-high = y .high;
-        a-month = rw (length-leap (yearOf j) (y .low) (omega arith)) at k;
-        day-low = omega arith;
-        day-high = omega arith;
+        of-years = (y .low, y .high);
+        of-year = rw (length-leap (yearOf j) (y .low) (omega arith)) at k;
+        of-month = omega arith;
       }
 
   pub date-day : dayNumber (dateOf j) ≡ j
@@ -66,49 +54,42 @@ module _ (j : ℕ) (lo : firstDay ≤ j) (hi : j ≤ lastDay) where
   date-day = let y = in-year in let m = in-month in omega arith
 
 -- Every good date is the date of its day, which lies in range.
-module _ (x : Date) (g : Good x) where
-  code : (1 ≤ x .month) × (x .month ≤ 13)
-  code = code-range _ _ (g .a-month)
-
-  of-year : InYear (dayNumber x) (x .year)
+module _ (x : Date) (g : GoodHebrewDate x) where
+  pub in-its-year : InYear (dayNumber x) (x .year)
   unfolding dayNumber yearLength
-  of-year =
+  in-its-year =
       let h = x .year in
-      let r = rises h (g .year-low) (omega arith) in
-      let w = months-add-up h (g .year-low) (g .year-high) in
-      let s = sums-rise (yearLength h) (x .month) 14 (omega (arith, code .1)) in
-      record { low = g .year-low; high = g .year-high; from = omega arith; before = omega arith }
+      let r = rises h (g .of-years .0) (omega arith) in
+      let w = months-add-up h (g .of-years .0) (g .of-years .1) in
+      let s = sums-rise (yearLength h) (x .month) 14 (omega (arith, g .of-year .0)) in
+      record { low = g .of-years .0; high = g .of-years .1; from = omega arith; before = omega arith }
 
-  pub day-in-range : (firstDay ≤ dayNumber x) × (dayNumber x ≤ lastDay)
-  day-in-range =
-      let y = of-year in (
-        omega (arith, first, rise-le 1 (x .year) (omega arith) (y .low) (omega arith)),
-        omega (arith, last, rise-le (x .year + 1) 10000 (omega arith) (omega arith) (omega arith)),
-      )
+  pub day-in-range : InRange (dayNumber x)
+  day-in-range = year-in-range (dayNumber x) (x .year) in-its-year
 
-  of-month : InMonth (yearLength (x .year)) (dayNumber x - newYear (x .year)) (x .month)
+  in-its-month : InMonth (yearLength (x .year)) (dayNumber x - newYear (x .year)) (x .month)
   unfolding dayNumber
-  of-month = record { low = code .0; high = code .1; from = omega arith; before = omega (arith, g .day-low, g .day-high) }
+  in-its-month = let d = g .of-month in record { low = g .of-year .0 .0; high = g .of-year .0 .1; from = omega arith; before = omega arith }
 
   back-day : dayNumber x - newYear (x .year) - daysBefore (yearLength (x .year)) (x .month) + 1 ≡ x .day
   unfolding dayNumber
-  back-day = omega (arith, g .day-low)
+  back-day = omega (arith, g .of-month)
 
   pub date-back : dateOf (dayNumber x) ≡ x
   unfolding dateOf
   date-back =
-      rw (year-is (dayNumber x) (x .year) of-year, month-is _ _ _ of-month)
+      rw (year-is (dayNumber x) (x .year) in-its-year, month-is _ _ _ in-its-month)
       (λ i. record { year = x .year; month = x .month; day = back-day i })
 
 -- So two good dates of one day are the same date.
-pub one-date : (x y : Date) → Good x → Good y → dayNumber x ≡ dayNumber y → x ≡ y
+pub one-date : (x y : Date) → GoodHebrewDate x → GoodHebrewDate y → dayNumber x ≡ dayNumber y → x ≡ y
 one-date x y g k e = sym (date-back x g) ∙ ap dateOf e ∙ date-back y k
 
 -- Dates of a year rise with their day numbers.
-pub dates-rise-by-month : (h m d n e : ℕ) → Good (record { year = h; month = m; day = d }) → Good (record { year = h; month = n; day = e }) → m < n → dayNumber (record { year = h; month = m; day = d }) < dayNumber (record { year = h; month = n; day = e })
+pub dates-rise-by-month : (h m d n e : ℕ) → GoodHebrewDate (record { year = h; month = m; day = d }) → GoodHebrewDate (record { year = h; month = n; day = e }) → m < n → dayNumber (record { year = h; month = m; day = d }) < dayNumber (record { year = h; month = n; day = e })
 unfolding dayNumber
-dates-rise-by-month h m d n e g k p = omega (arith, g .day-low, g .day-high, k .day-low, sums-rise (yearLength h) m n p)
+dates-rise-by-month h m d n e g k p = omega (arith, g .of-month, k .of-month, sums-rise (yearLength h) m n p)
 
-pub dates-rise-by-day : (h m d e : ℕ) → Good (record { year = h; month = m; day = d }) → d < e → dayNumber (record { year = h; month = m; day = d }) < dayNumber (record { year = h; month = m; day = e })
+pub dates-rise-by-day : (h m d e : ℕ) → GoodHebrewDate (record { year = h; month = m; day = d }) → d < e → dayNumber (record { year = h; month = m; day = d }) < dayNumber (record { year = h; month = m; day = e })
 unfolding dayNumber
-dates-rise-by-day h m d e g p = omega (arith, g .day-low)
+dates-rise-by-day h m d e g p = omega (arith, g .of-month)

@@ -3,3 +3,4 @@ pub mod Dates
 pub mod Placed
 pub mod RoundTrip
 pub mod Spanned
+pub mod Walked

@@ -28,7 +28,7 @@ sums-rise len a zero p = absurd (omega arith)
 sums-rise len a (suc b) p =
     by-cases (ℕ-discrete a b) (λ q. rw q (omega arith)) (λ q. omega (arith, sums-rise len a b (omega arith)))
 
-sums-row : (len a b : ℕ) → 1 ≤ a → a ≤ b → b ≤ 13 → daysBefore len a ≤ daysBefore len b
+pub sums-row : (len a b : ℕ) → 1 ≤ a → a ≤ b → b ≤ 13 → daysBefore len a ≤ daysBefore len b
 sums-row len a b l p u = by-cases (ℕ-discrete a b) (λ q. rw q (omega arith)) (λ q. omega (arith, sums-rise len a b (omega arith)))
 
 -- Day x of a year, counted from 0, lies in the month.
@@ -51,6 +51,15 @@ adar-on-all len = refl
 
 pub adar-on : (len code : ℕ) → 7 ≤ code → code ≤ 13 → 30 - code % 2 ≡ monthLength len code
 adar-on len code l u = equal 7 7 (λ code. 30 - code % 2) (monthLength len) (adar-on-all len) code l (omega arith)
+
+-- No month has more than 30 days.
+shorts-all : eachOf lengths (λ len. every 1 13 (λ code. leb (monthLength len code) 30)) ≡ true
+unfolding eachOf every monthLength
+shorts-all = refl
+
+pub month-short : (len code : ℕ) → IsLength len → 1 ≤ code → code ≤ 13 → monthLength len code ≤ 30
+month-short len code e l u =
+    leb-true _ _ (of-at lengths 1 (λ _. 13) (λ len code. leb (monthLength len code) 30) shorts-all len code (e .among) l (omega arith))
 
 -- A month's code lies from 1 to 13.
 pub code-range : (isLeap : Bool) (code : ℕ) → noMonth isLeap code ≡ false → (1 ≤ code) × (code ≤ 13)

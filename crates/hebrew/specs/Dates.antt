@@ -1,10 +1,8 @@
 -- Hebrew dates and day numbers.
-use mathlib.Core.Path.{_≡_}
-use mathlib.Core.Bool.{false}
 use Prim.Native.Nat.{ℕ, _+_, _-_, _≤_}
 use Rattle.laws.specs.Begun.{begun}
-use Rattle.molad.specs.Years.{leap}
-use Rattle.molad.specs.Molad.{noMonth}
+use Rattle.molad.specs.Years.{InYears, leap}
+use Rattle.molad.specs.Molad.{IsMonth}
 use Rattle.newyear.specs.NewYear.{newYear, yearLength, yearOf}
 use Rattle.hebrew.specs.Months.{monthLength, daysBefore}
 
@@ -14,12 +12,10 @@ pub record Date : Type 0 where
   pub day : ℕ
 
 -- A date is good when its year is 1..9999, its code 1..13 with 6 only in leap years, its day 1..the month's length.
-pub record Good (x : Date) : Type 0 where
-  pub year-low : 1 ≤ x .year
-  pub year-high : x .year ≤ 9999
-  pub a-month : noMonth (leap (x .year)) (x .month) ≡ false
-  pub day-low : 1 ≤ x .day
-  pub day-high : x .day ≤ monthLength (yearLength (x .year)) (x .month)
+pub record GoodHebrewDate (x : Date) : Type 0 where
+  pub of-years : InYears (x .year)
+  pub of-year : IsMonth (leap (x .year)) (x .month)
+  pub of-month : (1 ≤ x .day) × (x .day ≤ monthLength (yearLength (x .year)) (x .month))
 
 -- The day number of a date: New Year plus the days of the months before it plus day − 1.
 unfoldable pub dayNumber : Date → ℕ
@@ -30,7 +26,7 @@ dayNumber x = newYear (x .year) + daysBefore (yearLength (x .year)) (x .month) +
 unfoldable pub monthOf : ℕ → ℕ → ℕ
 monthOf len x = begun (daysBefore len) 13 x
 
--- The date of day j: the year that holds it, the month that holds what is left, and the day of that month.
+-- The date of day j: the year that holds it, the month that holds it, and the day of that month.
 unfoldable pub dateOf : ℕ → Date
 dateOf j =
     let h = yearOf j in

@@ -1,3 +1,4 @@
 pub mod Months
 pub mod Dates
+pub mod Steps
 pub mod Answers

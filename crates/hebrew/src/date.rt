@@ -1,12 +1,15 @@
-// A day's place in its year.
+// The dates of a year, by how many days after New Year they come.
 ghost use mathlib.Core.Path.{_≡_};
-ghost use Prim.Native.Nat.{_≤_, _<_, _+_, _-_};
+ghost use Prim.Native.Nat.{_≤_, _<_};
 ghost use Rattle.newyear.specs.Kinds.{IsLength};
-ghost use Rattle.hebrew.specs.Months.{daysBefore};
 ghost use Rattle.hebrew.specs.Dates.{monthOf};
+ghost use Rattle.hebrew.specs.Steps.{yearDate, tomorrow};
 use crate::months::days_before;
+use crate::months::days_in;
 
-pub struct MonthDay {
+pub struct YearDate {
+    // Days after New Year.
+    pub after: u64,
     pub month: u64,
     pub day: u64,
 }
@@ -20,18 +23,38 @@ fn month_of(length: u64, x: u64) -> u64
     let short = laws::pick(((length == 353) | (length == 383)) & (88 <= x), 1, 0);
     let from_new_year = (2 * (x + 1 + short - long) + 57) / 59;
     let from_end = 13 - (2 * (length - 1 - x) + 1) / 59;
-    let shevat_on = laws::pick(383 <= length, 236, 206);
-    laws::pick(x + shevat_on < length, from_new_year, from_end)
+    let after_shevat = laws::pick(383 <= length, 236, 206);
+    laws::pick(x + after_shevat < length, from_new_year, from_end)
 }
 
 // A step, for the six lengths.
-pub fn date_in(length: u64, x: u64) -> MonthDay
-    requires { ⌜ (IsLength length) × (x < length) ⌝ }
-    ensures { λ r. ⌜ (r .month ≡ monthOf length x) × (r .day ≡ x - daysBefore length (monthOf length x) + 1) ⌝ }
+pub fn date_after(length: u64, after: u64) -> YearDate
+    requires { ⌜ (IsLength length) × (after < length) ⌝ }
+    ensures { λ r. ⌜ r ≡ yearDate length after ⌝ }
 {
-    let month = month_of(length, x);
-    MonthDay {
+    let month = month_of(length, after);
+    YearDate {
+        after,
         month,
-        day: x - days_before(length, month) + 1,
+        day: after - days_before(length, month) + 1,
+    }
+}
+
+// A step, for dates of a year of this length.
+pub fn next_date(length: u64, date: YearDate) -> YearDate
+    requires { ⌜ (date .after ≤ 400) × ((date .month ≤ 13) × (date .day ≤ 400)) ⌝ }
+    ensures { λ r. ⌜ r ≡ tomorrow length date ⌝ }
+{
+    if (date.day < days_in(length, date.month)) | (13 <= date.month) {
+        return YearDate {
+            after: date.after + 1,
+            month: date.month,
+            day: date.day + 1,
+        };
+    }
+    YearDate {
+        after: date.after + 1,
+        month: laws::pick((date.month == 5) & (length < 383), 7, date.month + 1),
+        day: 1,
     }
 }

@@ -8,8 +8,9 @@ mod months;
 
 ghost use mathlib.Core.Path.{_≡_};
 ghost use Rattle.hebrew.specs.Answers.{monthAnswer, hebrewDay, hebrewDate};
-pub use date::MonthDay;
-use date::date_in;
+pub use date::YearDate;
+pub use date::date_after;
+pub use date::next_date;
 pub use months::days_before;
 use months::days_in;
 
@@ -96,14 +97,14 @@ pub fn day_to_hebrew(day: u64) -> HebrewDate
         };
     }
     let span = newyear::year_holding(day);
-    let place = date_in(span.length, day - span.new_year);
+    let date = date_after(span.length, day - span.new_year);
     HebrewDate {
         refusal: 0,
         year: span.year,
-        month: place.month,
-        day: place.day,
+        month: date.month,
+        day: date.day,
         new_year: span.new_year,
         length: span.length,
-        day_of_year: day - span.new_year + 1,
+        day_of_year: date.after + 1,
     }
 }

@@ -15,6 +15,14 @@ pub record Catches (test : Bool) (met : Type 0) : Type 0 where
   pub passes : test ≡ false → met
   pub catches : test ≡ true → ¬ met
 
+-- What is met passes.
+pub let-pass : {test : Bool} {met : Type 0} → Catches test met → met → test ≡ false
+let-pass {test} {met} t m = go test t
+  where
+    go : (test : Bool) → Catches test met → test ≡ false
+    go true t = absurd (t .catches refl m)
+    go false t = refl
+
 -- What lies outside a range is caught.
 pub ranged : (a b x : ℕ) → Catches (outside a b x) ((a ≤ x) × (x ≤ b))
 ranged a b x =

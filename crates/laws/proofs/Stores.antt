@@ -1,12 +1,12 @@
--- One more element of a list over the start of a buffer is one store.
+-- Lists over the start of a buffer: one more element is one store, and the list is what stands there then.
 use mathlib.Core.Path.{_≡_, refl}
 use mathlib.Core.List.{List, [], _∷_, _++_, append-assoc}
 use Prim.Native.Nat.{ℕ, _+_, _≤_, _<_}
 use native.Mathlib.Numerals.{add-one}
 use native.Mathlib.Omega.{arith}
 use lib.ListN.{length, take, drop, set, getD, length-append, length-take}
-use lib.Seq.{drop-cons, set-at, take-suc}
-use Rattle.laws.specs.Buffer.{overwrite}
+use lib.Seq.{drop-cons, set-at, take-suc, take-append-seam}
+use Rattle.laws.specs.Buffer.{Lent, overwrite}
 
 pub over-more : (e l : List ℕ) (a n : ℕ) → length l ≡ n → n < length e → set (overwrite e l) n a ≡ overwrite e (l ++ (a ∷ []))
 unfolding overwrite
@@ -23,3 +23,7 @@ pub over-take : (e l : List ℕ) (i : ℕ) → i < length l → length l ≤ len
 over-take e l i h u =
     let n : length (take i l) ≡ i = simp length-take (omega arith) in
     let r : i < length e = omega arith in rw (over-more e (take i l) (getD l i 0) i, add-one, take-suc l i 0 h)
+
+-- What a call that is done has written.
+pub list-written : (list before after : List ℕ) (number n : ℕ) → Lent number list before after → number ≡ 0 → length list ≡ n → take n after ≡ list
+list-written list before after number n t z e = rw (t .written z, ← e) (take-append-seam list _)

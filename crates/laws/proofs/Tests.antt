@@ -1,6 +1,6 @@
 -- What a computed test says of a run of numbers, or of a table, holds at each place.
-use mathlib.Core.Path.{_≡_, refl, sym}
-use mathlib.Core.Bool.{Bool, true, false, _&&_, _||_, cond, Bool·beq}
+use mathlib.Core.Path.{_≡_, refl, sym, _∙_}
+use mathlib.Core.Bool.{Bool, true, false, _&&_, _||_, cond, Bool·beq, false≢true}
 use mathlib.Core.List.{List, [], _∷_}
 use mathlib.Core.Logic.{by-cases}
 use Prim.Native.Nat.{ℕ, zero, suc, _+_, _≤_, _<_}
@@ -8,6 +8,7 @@ use native.Mathlib.Omega.{arith}
 use native.Mathlib.Decide.{ℕ-discrete}
 use borrow.Author.Tests.{eqb-true, ne-eqb, ltb-false}
 use lib.Dec.{eqb, ltb}
+use lib.ListN.{length, getD}
 use Rattle.laws.specs.Runs.{every, eachOf, elem, outside}
 
 pub and-left : (a b : Bool) → a && b ≡ true → a ≡ true
@@ -25,6 +26,10 @@ or-left false b e = refl
 pub or-right : (a b : Bool) → a || b ≡ false → b ≡ false
 or-right true b e = cc
 or-right false b e = e
+
+-- No test both passes and fails.
+pub clash : (b : Bool) → b ≡ true → b ≡ false → ⊥
+clash b p q = false≢true (sym q ∙ p)
 
 -- Two tests that agree are equal.
 pub beq-true : (a b : Bool) → Bool·beq a b ≡ true → a ≡ b
@@ -54,6 +59,20 @@ of (y ∷ l) p e x h =
     by-cases (ℕ-discrete x y)
     (λ q. rw q (and-left _ _ e))
     (λ q. of l p (and-right (p y) _ e) x (rw (ne-eqb x y q) at h))
+
+-- The entry by its index.
+pub each-at : (l : List ℕ) (p : ℕ → Bool) → eachOf l p ≡ true → (i : ℕ) → i < length l → p (getD l i 0) ≡ true
+unfolding eachOf
+each-at [] p e i h = absurd (omega arith)
+each-at (x ∷ l) p e zero h = and-left _ _ e
+each-at (x ∷ l) p e (suc i) h = each-at l p (and-right (p x) _ e) i (omega arith)
+
+-- Two tests that agree on a run of numbers, or on all.
+pub every-alike : (a n : ℕ) (p q : ℕ → Bool) → ((k : ℕ) → a ≤ k → k < a + n → p k ≡ q k) → every a n p ≡ every a n q
+unfolding every
+every-alike a zero p q f = refl
+every-alike a (suc n) p q f =
+    rw (f a (omega arith) (omega arith), every-alike (suc a) n p q (λ k l u. f k (omega arith) (omega arith)))
 
 -- A test that compares two functions.
 pub equal : (a n : ℕ) (f g : ℕ → ℕ) → every a n (λ k. eqb (f k) (g k)) ≡ true → (k : ℕ) → a ≤ k → k < a + n → f k ≡ g k

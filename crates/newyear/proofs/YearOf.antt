@@ -8,7 +8,7 @@ use native.Mathlib.Decide.{decLt, ℕ-discrete}
 use lib.Dec.{ltb}
 use borrow.Author.Tests.{ltb-true, ltb-false}
 use Rattle.laws.proofs.Counted.{begun-is}
-use Rattle.days.specs.Range.{firstDay, lastDay}
+use Rattle.days.specs.Range.{firstDay, lastDay, InRange}
 use Rattle.molad.specs.Years.{lastYear, lastNewYear}
 use Rattle.newyear.specs.NewYear.{newYear, yearOf}
 use Rattle.newyear.proofs.Quick.{quick, newYear-quick}
@@ -30,6 +30,13 @@ first = newYear-quick 1 (omega arith)
 pub last : newYear lastNewYear ≡ lastDay + 1
 unfolding quick
 last = newYear-quick lastNewYear (omega arith)
+
+-- A day of a year lies in the range.
+pub year-in-range : (j h : ℕ) → InYear j h → InRange j
+year-in-range j h i = (
+  omega (arith, first, rise-le 1 h (omega arith) (i .low) (omega (arith, i .high)), i .from),
+  omega (arith, last, rise-le (h + 1) lastNewYear (omega arith) (omega (arith, i .high)) (omega arith), i .before),
+)
 
 -- The year that holds a day is the only one that it lies in.
 pub year-is : (j h : ℕ) → InYear j h → yearOf j ≡ h

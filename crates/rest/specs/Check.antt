@@ -1,28 +1,27 @@
 -- The check that a table of rest days must pass. In a year of each of the fourteen kinds: each row is a date of the year;
--- 1 Tishri is a row; the last day is no rest day; and no four neighbouring days are all rest days. What the stretches of
+-- 1 Tishri is a row; the last day is no rest day; and no four neighbouring days are all rest days. What the rest days of
 -- such a table have in common is shown for any table that passes.
-use mathlib.Core.Bool.{Bool, true, _&&_, not}
-use mathlib.Core.List.{List, [], _∷_}
+use mathlib.Core.Bool.{Bool, _&&_, not}
+use mathlib.Core.List.{List}
 use Prim.Native.Nat.{ℕ, _+_, _-_, _/_, _%_}
 use Rattle.laws.specs.Runs.{every, eachOf, elem, outside}
 use Rattle.newyear.specs.Kinds.{kinds}
 use Rattle.hebrew.specs.Months.{monthLength}
-use Rattle.rest.specs.Steps.{places, restAt}
-use Rattle.hebrew.specs.declared.date.MonthDay.{MonthDay}
+use Rattle.rest.specs.Table.{row}
+use Rattle.rest.specs.Steps.{restAt}
 
--- Each row is a date of a year of this length.
-unfoldable pub rowsGood : List MonthDay → ℕ → Bool
-rowsGood [] len = true
-rowsGood (f ∷ table) len = not (outside 1 13 (f .month)) && not (outside 1 (monthLength len (f .month)) (f .day)) && rowsGood table len
+-- The row is a date of a year of this length.
+unfoldable pub rowGood : ℕ → ℕ → Bool
+rowGood len r = not (outside 1 13 (r / 100)) && not (outside 1 (monthLength len (r / 100)) (r % 100))
 
-unfoldable pub passesIn : List MonthDay → ℕ → ℕ → Bool
-passesIn table w len =
-    rowsGood table len && elem 0 (places table len) && not (restAt (places table len) w (len - 1))
-    && every 0 (len - 3) (λ x.
-    not
-    (restAt (places table len) w x && restAt (places table len) w (x + 1) && restAt (places table len) w (x + 2)
-    && restAt (places table len) w (x + 3)))
+-- Four neighbouring days, from x on, are all rest days.
+abbrev pub four : (ℕ → Bool) → ℕ → Bool
+four rest x = rest x && rest (x + 1) && rest (x + 2) && rest (x + 3)
+
+unfoldable pub passesIn : List ℕ → ℕ → (ℕ → Bool) → Bool
+passesIn table len rest =
+    eachOf table (rowGood len) && elem (row 1 1) table && not (rest (len - 1)) && every 0 (len - 3) (λ x. not (four rest x))
 
 -- A kind is 1,000 × weekday of New Year + length.
-unfoldable pub passes : List MonthDay → Bool
-passes table = eachOf kinds (λ k. passesIn table (k / 1000) (k % 1000))
+unfoldable pub passes : List ℕ → Bool
+passes table = eachOf kinds (λ k. passesIn table (k % 1000) (restAt table (k / 1000) (k % 1000)))

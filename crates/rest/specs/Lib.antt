@@ -1,6 +1,5 @@
 pub mod Answers
 pub mod Check
-pub mod Checked
+pub mod Promise
 pub mod Steps
-pub mod Stretches
 pub mod Table

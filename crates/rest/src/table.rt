@@ -1,35 +1,37 @@
-// The table of rest days, and where its rows fall in a year.
-use hebrew::MonthDay;
+// The table of rest days, and the rule that searches it.
+use hebrew::YearDate;
 ghost use mathlib.Core.Path.{_≡_};
-ghost use Prim.Native.Nat.{ℕ, _≤_};
-ghost use lib.ListN.{getD};
-ghost use Rattle.newyear.specs.Kinds.{IsLength};
-ghost use Rattle.rest.specs.Table.{restTable};
-ghost use Rattle.rest.specs.Steps.{places};
+ghost use Prim.Native.Nat.{_≤_};
+ghost use Rattle.laws.specs.Runs.{elem};
+ghost use Rattle.rest.specs.Steps.{restOn};
 
-// Tishri 1, 2, 10, 15, 22; Nisan 15, 21; Sivan 6.
-const REST_TABLE: [MonthDay; 8] = [
-    MonthDay { month: 1, day: 1 },
-    MonthDay { month: 1, day: 2 },
-    MonthDay { month: 1, day: 10 },
-    MonthDay { month: 1, day: 15 },
-    MonthDay { month: 1, day: 22 },
-    MonthDay { month: 8, day: 15 },
-    MonthDay { month: 8, day: 21 },
-    MonthDay { month: 10, day: 6 },
-];
+// How many rows the table has.
+pub const ROWS: usize = 8;
 
-// How many days after New Year each row of the table falls, in a year of this length.
-pub fn rest_places(length: u64) -> [u64; 8]
-    requires { ⌜ IsLength length ⌝ }
-    ensures { λ r. ⌜ (r ≡ places restTable length) × ((x : ℕ) → getD r x 0 ≤ 400) ⌝ }
+// Tishri 1, 2, 10, 15, 22; Nisan 15, 21; Sivan 6: a row is 100 × month code + day.
+pub const REST_TABLE: [u64; ROWS] = [1_01, 1_02, 1_10, 1_15, 1_22, 8_15, 8_21, 10_06];
+
+// Is there such a row in the table?
+fn among(table: &[u64], row: u64) -> bool
+    ensures { λ r. ⌜ r ≡ elem row (now (table .entry)) ⌝ }
 {
-    let mut at = [0u64; 8];
     let mut i = 0;
-    while i < 8 {
-        let row = REST_TABLE[i];
-        at[i] = hebrew::days_before(length, row.month) + row.day - 1;
+    while i < table.len() {
+        if row == table[i] {
+            return true;
+        }
         i += 1;
     }
-    at
+    false
+}
+
+// A step, for dates of a year whose New Year falls on this weekday, which may be counted on past 7: is it a rest day?
+pub fn rest_on(table: &[u64], weekday: u64, date: YearDate) -> bool
+    requires { ⌜ (weekday ≤ 400) × ((date .after ≤ 400) × ((date .month ≤ 13) × (date .day ≤ 400))) ⌝ }
+    ensures { λ r. ⌜ r ≡ restOn (now (table .entry)) weekday date ⌝ }
+{
+    if (weekday + date.after) % 7 == 0 {
+        return true;
+    }
+    among(table, 100 * date.month + date.day)
 }

@@ -4,6 +4,7 @@ use native.Mathlib.Omega.{arith}
 use Rattle.days.proofs.InRange.{in-range}
 use Rattle.newyear.proofs.Spanned.{span-holds}
 use Rattle.hebrew.specs.Dates.{dateOf}
+use Rattle.hebrew.specs.Steps.{yearDate}
 use Rattle.hebrew.specs.Answers.{hebrewDate}
 use Rattle.hebrew.proofs.day_to_hebrew.Statement.{statement}
 use Rattle.hebrew.proofs.day_to_hebrew.Tie as tie
@@ -15,7 +16,7 @@ inside :
 inside c = span-holds _ _ (in-range _ (c .before .before .out-of-range .ensures) (c .before .if1 .left)) (c .year-holding .ensures)
 
 pub day-to-hebrew-spec : {M : Type 1} → statement M
-unfolding hebrewDate dateOf
+unfolding hebrewDate dateOf yearDate
 day-to-hebrew-spec =
     tie.close
     (tie.spec
@@ -24,10 +25,9 @@ day-to-hebrew-spec =
     (λ c κs. in-range _ (c .before .out-of-range .ensures) (c .if1 .left))
     (λ c. inside (c .before) .0)
     (λ c κs. let i = inside (c .before) in (c .before .year-holding .ensures .measured, omega arith))
-    (λ c. inside (c .before .before .before) .0)
-    (search needs)
+    (λ c. let i = inside (c .before .before .before) in rw (c .before .date-after .ensures) (search needs))
     (λ c.
     let s = c .before .before .before in
     let e = s .year-holding .ensures in
     let b = s .before in
-    rw (← b .before .out-of-range .ensures, b .if1 .left, ← e .begins, ← e .days, ← e .year, ← c .before .date-in .ensures .1, ← c .before .date-in .ensures .0)))
+    rw (← b .before .out-of-range .ensures, b .if1 .left, c .before .date-after .ensures, e .begins, e .days, e .year)))

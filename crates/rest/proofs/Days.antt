@@ -1,0 +1,100 @@
+-- The list of a year's rest days, for any table that passes the check.
+use mathlib.Core.Path.{_≡_, refl, sym, _∙_, ap}
+use mathlib.Core.Bool.{Bool, true, false, cond, not, _&&_, _||_, or-true, false≢true}
+use mathlib.Core.List.{List, [], _∷_}
+use mathlib.Core.Logic.{by-cases}
+use Prim.Native.Nat.{ℕ, zero, suc, _+_, _*_, _-_, _/_, _%_, _≤_, _<_}
+use native.Mathlib.Omega.{arith}
+use native.Mathlib.Decide.{ℕ-discrete}
+use borrow.Author.Tests.{eq-eqb, ne-eqb}
+use lib.Dec.{eqb, leb}
+use lib.ListN.{length, getD}
+use Rattle.laws.specs.Runs.{eachOf, elem}
+use Rattle.laws.proofs.Tests.{and-left, and-right, each-at}
+use Rattle.laws.proofs.Promises.{ranged, let-pass}
+use Rattle.days.specs.Range.{firstDay, lastDay}
+use Rattle.days.specs.Weekday.{weekday}
+use Rattle.newyear.specs.NewYear.{yearLength, yearOf}
+use Rattle.newyear.proofs.Lengths.{length-in, length-leap}
+use Rattle.newyear.proofs.YearOf.{InYear, year-is, year-in-range}
+use Rattle.hebrew.specs.Months.{monthLength}
+use Rattle.hebrew.specs.Dates.{Date, GoodHebrewDate, dayNumber, dateOf}
+use Rattle.hebrew.proofs.Placed.{month-short}
+use Rattle.hebrew.proofs.Dates.{adar-one, date-good, date-day, date-back, in-its-year}
+use Rattle.rest.specs.Table.{row, rowDate, inTable, isRest, restDay, restDays}
+use Rattle.rest.specs.Check.{rowGood, passes}
+use Rattle.rest.specs.Promise.{RestDaysOf}
+use Rattle.rest.proofs.Rows.{GoodRow, good-row, days-at, days-length}
+use Rattle.rest.proofs.RestOfYear.{rows-good}
+
+-- The date of a day is in the year that the day lies in.
+dated-in : (j h : ℕ) → InYear j h → dateOf j .year ≡ h
+unfolding dateOf
+dated-in j h i = year-is j h i
+
+module _ (h : ℕ) (l : 1 ≤ h) (u : h ≤ 9999) where
+  abbrev len : ℕ
+  len = yearLength h
+
+  -- A good row is a good date of the year.
+  row-date : (r : ℕ) → GoodRow len r → GoodHebrewDate (rowDate h r)
+  unfolding monthLength
+  row-date r g =
+      record {
+        of-years = (l, u);
+        of-year = (g .code, λ q. rw (← length-leap h l (omega arith)) (adar-one (leb 383 len) 0 0 (omega arith) (omega (arith, rw q at (g .day)))));
+        of-month = g .day;
+      }
+
+  -- A day of the year has the row's day number exactly if it has its date.
+  same-row : (j : ℕ) → InYear j h → (r : ℕ) → GoodRow len r → eqb j (dayNumber (rowDate h r)) ≡ eqb (row (dateOf j .month) (dateOf j .day)) r
+  same-row j i r g =
+      let o = year-in-range j h i in
+      let x = dateOf j in
+      let good = date-good j (o .0) (o .1) in
+      let y = dated-in j h i in
+      let short = month-short (yearLength (x .year)) (x .month) (length-in (x .year) (good .of-years .0) (omega (arith, good .of-years .1))) (good .of-year .0 .0) (good .of-year .0 .1) in
+      by-cases (ℕ-discrete j (dayNumber (rowDate h r)))
+      (λ q.
+      let b : dateOf j ≡ rowDate h r = rw q (date-back (rowDate h r) (row-date r g)) in
+      let e : row (dateOf j .month) (dateOf j .day) ≡ r = rw b (omega arith) in
+      rw (eq-eqb j _ q, eq-eqb _ r e))
+      (λ q.
+      let n : row (x .month) (x .day) ≡ r → ⊥ =
+      λ e.
+      let m : x .month ≡ r / 100 = omega (arith, good .of-month) in
+      let d : x .day ≡ r % 100 = omega (arith, good .of-month) in
+      let s : x ≡ rowDate h r = λ k. record { year = y k; month = m k; day = d k } in
+      q (sym (date-day j (o .0) (o .1)) ∙ ap dayNumber s) in
+      rw (ne-eqb j _ q, ne-eqb _ r n))
+
+  -- So it is in the list exactly if its date is in the table.
+  listed : (table : List ℕ) → eachOf table (rowGood len) ≡ true → (j : ℕ) → InYear j h → elem j (restDays table h) ≡ inTable table (dateOf j)
+  unfolding restDays eachOf
+  listed [] good j i = refl
+  listed (r ∷ table) good j i =
+      rw (same-row j i r (good-row len r (and-left _ _ good)), listed table (and-right (rowGood len r) _ good) j i)
+
+  -- A day of the list is a day of the year.
+  of-the-year : (table : List ℕ) → eachOf table (rowGood len) ≡ true → (j : ℕ) → elem j (restDays table h) ≡ true → InYear j h
+  unfolding restDays eachOf
+  of-the-year [] good j e = absurd (false≢true e)
+  of-the-year (r ∷ table) good j e =
+      by-cases (ℕ-discrete j (dayNumber (rowDate h r)))
+      (λ q. rw q (in-its-year (rowDate h r) (row-date r (good-row len r (and-left _ _ good)))))
+      (λ q. of-the-year table (and-right (rowGood len r) _ good) j (rw (ne-eqb j _ q) at e))
+
+  pub rest-days-of : (table : List ℕ) → passes table ≡ true → RestDaysOf table h (restDays table h)
+  unfolding restDay isRest
+  rest-days-of table ok =
+      let good = rows-good table ok h l u in
+      record {
+        as-many = days-length table h;
+        in-order = λ i p. rw (days-at table h i p) (date-back _ (row-date _ (good-row len _ (each-at table (rowGood len) good i p))));
+        rests =
+            λ j e.
+                let i = of-the-year table good j e in
+                (i, rw (let-pass (ranged firstDay lastDay j) (year-in-range j h i), sym (listed table good j i) ∙ e, or-true));
+        dated = listed table good;
+        no-other = λ j i. rw (let-pass (ranged firstDay lastDay j) (year-in-range j h i), listed table good j i);
+      }

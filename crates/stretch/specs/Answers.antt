@@ -1,0 +1,33 @@
+-- What `stretch` and `stretches` answer, and what `stretches` makes of a lent buffer.
+use mathlib.Core.Bool.{cond}
+use mathlib.Core.List.{List}
+use Prim.Native.Nat.{ℕ, _-_, _/_}
+use lib.Dec.{ltb}
+use lib.IntN.{ℤ, pos, subℕ}
+use lib.ListN.{length}
+use Rattle.days.specs.Range.{lastDay, outOfRange}
+use Rattle.rest.specs.Answers.{listAnswer, listBuffer}
+use Rattle.stretch.specs.Stretches.{nextRest, stretchFirst, stretchPast, stretchRows}
+use Rattle.rest.specs.declared.ListAnswer.{ListAnswer}
+use Rattle.stretch.specs.declared.StretchAnswer.{StretchAnswer}
+
+abbrev pub noStretch : ℕ → StretchAnswer
+noStretch n = record { refusal = n; first = 0; length = 0; «days_left» = pos 0 }
+
+-- Days left = first day minus the day asked, with its sign.
+abbrev pub stretchOn : ℕ → ℕ → ℕ → StretchAnswer
+stretchOn j first past = record { refusal = 0; first = first; length = past - first; «days_left» = subℕ first j }
+
+-- Refusal 4: the day number lies outside the range. 9: no stretch in range ends on or after the day.
+unfoldable pub stretchAnswer : List ℕ → ℕ → StretchAnswer
+stretchAnswer table j =
+    cond (outOfRange j) (noStretch 4)
+    (cond (ltb lastDay (nextRest table j)) (noStretch 9)
+    (stretchOn j (stretchFirst table j) (stretchPast table j)))
+
+-- Two entries for each stretch.
+abbrev pub stretchesAnswer : List ℕ → ℕ → List ℕ → ListAnswer
+stretchesAnswer table h buffer = listAnswer h buffer (stretchRows table h) (length (stretchRows table h) / 2)
+
+abbrev pub stretchesBuffer : List ℕ → ℕ → List ℕ → List ℕ
+stretchesBuffer table h buffer = listBuffer h buffer (stretchRows table h)

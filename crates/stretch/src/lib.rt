@@ -1,0 +1,113 @@
+// Which stretch of rest days is next, and which stretches has a year.
+//
+// Rest days next to each other form a stretch of one to three days. No stretch crosses a New Year, 29 Elul never being a
+// rest day and 1 Tishri always, so the code works on the days of one year: it walks through their dates from one to the
+// next and asks each whether it is a rest day.
+mod lists;
+mod runs;
+
+ghost use mathlib.Core.Path.{_≡_};
+ghost use mathlib.Core.Bool.{true};
+ghost use Prim.Native.Nat.{_≤_};
+ghost use lib.IntN.{subℕ};
+ghost use Rattle.rest.specs.Table.{restTable};
+ghost use Rattle.rest.specs.Check.{passes};
+ghost use Rattle.stretch.specs.Answers.{stretchAnswer, stretchesAnswer, stretchesBuffer};
+
+#[repr(C)]
+pub struct StretchAnswer {
+    pub refusal: u64,
+    pub first: u64,
+    pub length: u64,
+    pub days_left: i64,
+}
+
+// First day minus the day asked, with its sign: the one place where a number of this crate can be below zero.
+fn days_left(first: u64, day: u64) -> i64
+    requires { ⌜ (first ≤ 5000000) × (day ≤ 5000000) ⌝ }
+    ensures { λ r. ⌜ r ≡ subℕ first day ⌝ }
+{
+    (first as i64) - (day as i64)
+}
+
+// The stretch for a day, for any table of rest days that passes the check.
+fn stretch_of(table: &[u64], day: u64) -> StretchAnswer
+    requires { ⌜ passes (now table) ≡ true ⌝ }
+    ensures { λ r. ⌜ r ≡ stretchAnswer (now (table .entry)) day ⌝ }
+{
+    if days::out_of_range(day) {
+        return StretchAnswer {
+            refusal: 4,
+            first: 0,
+            length: 0,
+            days_left: 0,
+        };
+    }
+    let span = newyear::year_holding(day);
+    let weekday = days::weekday_of(span.new_year);
+    let run = runs::run_for(table, weekday, span.length, day - span.new_year);
+    let first = span.new_year + run.first;
+    if days::LAST_DAY < first {
+        return StretchAnswer {
+            refusal: 9,
+            first: 0,
+            length: 0,
+            days_left: 0,
+        };
+    }
+    StretchAnswer {
+        refusal: 0,
+        first,
+        length: run.past - run.first,
+        days_left: days_left(first, day),
+    }
+}
+
+// Refusal 4 for a day outside the range; 9 where no stretch in range ends on or after the day.
+pub fn stretch(day: u64) -> StretchAnswer
+    ensures { λ r. ⌜ r ≡ stretchAnswer restTable day ⌝ }
+{
+    let table = rest::REST_TABLE;
+    stretch_of(&table, day)
+}
+
+// A year has at most as many days as this, and its stretches take fewer entries.
+const MOST_DAYS: usize = 385;
+
+// The stretches of a year, for any table of rest days that passes the check.
+fn stretches_of(table: &[u64], year: u64, out: &mut [u64]) -> rest::ListAnswer
+    requires { ⌜ passes (now table) ≡ true ⌝ }
+    ensures { λ r. ⌜ (r ≡ stretchesAnswer (now (table .entry)) year (now (out .entry))) × (now (out .exit) ≡ stretchesBuffer (now (table .entry)) year (now (out .entry))) ⌝ }
+{
+    if (year < 1) | (molad::LAST_YEAR < year) {
+        return rest::ListAnswer {
+            refusal: 1,
+            count: 0,
+        };
+    }
+    let span = newyear::year_span(year);
+    let weekday = days::weekday_of(span.new_year);
+    let mut rows = [0u64; MOST_DAYS];
+    let wanted = lists::write_rows(table, weekday, span.new_year, span.length, &mut rows);
+    if out.len() < wanted {
+        return rest::ListAnswer {
+            refusal: 10,
+            count: wanted as u64,
+        };
+    }
+    lists::copy(&rows[..wanted], out);
+    rest::ListAnswer {
+        refusal: 0,
+        count: wanted as u64 / 2,
+    }
+}
+
+// First day and length of each stretch that begins in the year, rising, two entries each. Refusal 1 for a year outside
+// 1..9999; 10 for a buffer that is too short, telling how many entries are wanted; else the answer tells how many
+// stretches.
+pub fn stretches(year: u64, out: &mut [u64]) -> rest::ListAnswer
+    ensures { λ r. ⌜ (r ≡ stretchesAnswer restTable year (now (out .entry))) × (now (out .exit) ≡ stretchesBuffer restTable year (now (out .entry))) ⌝ }
+{
+    let table = rest::REST_TABLE;
+    stretches_of(&table, year, out)
+}

@@ -1,0 +1,71 @@
+// Runs of rest days, on the days of one year counted from 0 at New Year, which falls on `weekday`. A weekday may also be
+// counted on past 7.
+use hebrew::YearDate;
+ghost use mathlib.Core.Path.{_≡_};
+ghost use mathlib.Core.Bool.{not, cond};
+ghost use Prim.Native.Nat.{_+_, _-_, _≤_, _<_};
+ghost use Rattle.laws.specs.Search.{seek, runStart};
+ghost use Rattle.newyear.specs.Kinds.{IsLength};
+ghost use Rattle.hebrew.specs.Steps.{yearDate};
+ghost use Rattle.rest.specs.Steps.{restAt};
+ghost use Rattle.stretch.specs.Steps.{firstFor, pastFor};
+
+// The first day from a date on that is a rest day or, where it is not wanted, that is none; the day after the year where
+// there is no such day.
+fn first_day(table: &[u64], weekday: u64, length: u64, from: YearDate, wanted: bool) -> YearDate
+    requires { ⌜ (weekday ≤ 400) × ((IsLength length) × ((from .after < length) × (from ≡ yearDate length (from .after)))) ⌝ }
+    ensures { λ r. ⌜ r ≡ yearDate length
+        (seek (λ k. cond wanted (restAt (now (table .entry)) weekday length k) (not (restAt (now (table .entry)) weekday length k))) (length - from .after) (from .after)) ⌝ }
+{
+    let mut date = from;
+    while date.after < length {
+        if rest::rest_on(table, weekday, date) == wanted {
+            return date;
+        }
+        date = hebrew::next_date(length, date);
+    }
+    date
+}
+
+// Where the run of rest days begins that ends with the day before day x.
+fn run_start(table: &[u64], weekday: u64, length: u64, x: u64) -> u64
+    requires { ⌜ (weekday ≤ 400) × ((IsLength length) × (x ≤ length)) ⌝ }
+    ensures { λ r. ⌜ (r ≡ runStart (restAt (now (table .entry)) weekday length) x) × (r ≤ x) ⌝ }
+{
+    let mut first = x;
+    while 0 < first {
+        if !rest::rest_on(table, weekday, hebrew::date_after(length, first - 1)) {
+            return first;
+        }
+        first -= 1;
+    }
+    first
+}
+
+pub struct Stretch {
+    pub first: u64,
+    // The day after the last.
+    pub past: u64,
+}
+
+// The run for day x: that of the next rest day or, where none is left in the year, the run that the next New Year begins.
+pub fn run_for(table: &[u64], weekday: u64, length: u64, x: u64) -> Stretch
+    requires { ⌜ (weekday ≤ 7) × ((IsLength length) × (x < length)) ⌝ }
+    ensures { λ r. ⌜ ((r .first ≡ firstFor (restAt (now (table .entry)) weekday length) length x)
+        × (r .past ≡ pastFor (restAt (now (table .entry)) weekday length) (restAt (now (table .entry)) (weekday + length) length) length x)) × ((r .first ≤ 385) × (r .past ≤ 770)) ⌝ }
+{
+    let next = first_day(table, weekday, length, hebrew::date_after(length, x), true);
+    if next.after < length {
+        let past = first_day(table, weekday, length, next, false);
+        Stretch {
+            first: run_start(table, weekday, length, next.after),
+            past: past.after,
+        }
+    } else {
+        let past = first_day(table, weekday + length, length, hebrew::date_after(length, 0), false);
+        Stretch {
+            first: length,
+            past: length + past.after,
+        }
+    }
+}
