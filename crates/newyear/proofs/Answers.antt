@@ -1,12 +1,67 @@
--- One answer for each call.
-use mathlib.Core.Path.{_≡_}
-use Prim.Native.Nat.{ℕ}
+-- What `new_year`, `year` and `year_of_day` promise, and that each contract leaves one answer.
+use mathlib.Core.Path.{_≡_, refl, sym, _∙_}
+use mathlib.Core.Bool.{Bool, cond}
+use mathlib.Core.List.{[], _∷_}
+use Prim.Native.Nat.{ℕ, _+_, _-_, _/_, _%_}
+use native.Mathlib.Omega.{arith}
+use Rattle.laws.specs.Promise.{_else_, Promised}
 use Rattle.laws.proofs.One.{one-result}
-use Rattle.newyear.specs.Answers.{newYearAnswer, yearAnswer, yearOfDayAnswer}
+use Rattle.laws.proofs.Promises.{ranged, asks, answered}
+use Rattle.days.specs.Range.{firstDay, lastDay, InRange}
+use Rattle.molad.specs.Years.{lastYear, InYears, lastNewYear, InNewYears, outOfNewYears, leap, monthsIn}
+use Rattle.molad.specs.Molad.{moladDay, moladTime}
+use Rattle.newyear.specs.NewYear.{newYear, yearLength, yearOf}
+use Rattle.newyear.specs.Answers.{noNewYear, newYearOn, newYearAnswer, yearAnswer, yearOfDayAnswer}
+use Rattle.newyear.specs.Spans.{Spans}
+use Rattle.newyear.specs.Steps.{IsDelay}
 use Rattle.newyear.specs.declared.NewYearAnswer.{NewYearAnswer}
 use Rattle.newyear.specs.declared.YearAnswer.{YearAnswer}
 use Rattle.newyear.specs.declared.YearOfDayAnswer.{YearOfDayAnswer}
+use Rattle.newyear.specs.declared.span.Span.{Span}
+use Rattle.newyear.proofs.YearOf.{InYear, held}
 
+-- What the New Year of year h promises, by either route: its day j, and the molad's day and time t.
+abbrev pub NewYearPromised : ℕ → ℕ → ℕ → ℕ → NewYearAnswer → Type 0
+NewYearPromised h j moladJ t =
+    Promised (λ (r : NewYearAnswer). r .refusal) (InNewYears h else 1 ∷ [])
+    (λ r.
+    ((r .day ≡ j) × (r .weekday ≡ (j + 1) % 7 + 1))
+    × ((r .«molad_day» ≡ moladJ) × ((r .«molad_hour» ≡ t / 1080) × (r .«molad_part» ≡ t % 1080))))
+    (λ n r. (r .day ≡ 0) × ((r .weekday ≡ 0) × ((r .«molad_day» ≡ 0) × ((r .«molad_hour» ≡ 0) × (r .«molad_part» ≡ 0)))))
+
+pub on-promised : (h j moladJ t : ℕ) → NewYearPromised h j moladJ t (cond (outOfNewYears h) (noNewYear 1) (newYearOn j moladJ t))
+on-promised h j moladJ t =
+    asks (noNewYear 1) (ranged 1 lastNewYear h) (omega arith) refl (refl, (refl, (refl, (refl, refl)))) (λ _.
+    answered refl ((refl, refl), (refl, (refl, refl))))
+
+pub new-year-promised : (h : ℕ) → NewYearPromised h (newYear h) (moladDay h 1) (moladTime h 1) (newYearAnswer h)
+unfolding newYearAnswer
+new-year-promised h = on-promised h (newYear h) (moladDay h 1) (moladTime h 1)
+
+pub year-promised :
+    (h : ℕ) →
+    Promised (λ (r : YearAnswer). r .refusal) (InYears h else 1 ∷ [])
+    (λ r.
+    ((r .«new_year» ≡ newYear h) × (r .weekday ≡ (newYear h + 1) % 7 + 1))
+    × ((r .length ≡ newYear (h + 1) - newYear h) × (r .months ≡ cond (leap h) 13 12)))
+    (λ n r. (r .«new_year» ≡ 0) × ((r .weekday ≡ 0) × ((r .length ≡ 0) × (r .months ≡ 0))))
+    (yearAnswer h)
+unfolding yearAnswer yearLength monthsIn
+year-promised h =
+    asks (record { refusal = 1; «new_year» = 0; weekday = 0; length = 0; months = 0 }) (ranged 1 lastYear h) (omega arith) refl (refl, (refl, (refl, refl))) (λ _.
+    answered refl ((refl, refl), (refl, refl)))
+
+-- The year told holds the day.
+pub year-of-day-promised :
+    (j : ℕ) →
+    Promised (λ (r : YearOfDayAnswer). r .refusal) (InRange j else 4 ∷ []) (λ r. InYear j (r .year)) (λ n r. r .year ≡ 0)
+    (yearOfDayAnswer j)
+unfolding yearOfDayAnswer
+year-of-day-promised j =
+    asks (record { refusal = 4; year = 0 }) (ranged firstDay lastDay j) (omega arith) refl refl (λ m.
+    answered refl (held j (m .0) (m .1)))
+
+-- One answer, and one result of each step.
 pub new-year-one : (h : ℕ) (r s : NewYearAnswer) → r ≡ newYearAnswer h → s ≡ newYearAnswer h → r ≡ s
 new-year-one h = one-result (newYearAnswer h)
 
@@ -15,3 +70,17 @@ year-one h = one-result (yearAnswer h)
 
 pub year-of-day-one : (j : ℕ) (r s : YearOfDayAnswer) → r ≡ yearOfDayAnswer j → s ≡ yearOfDayAnswer j → r ≡ s
 year-of-day-one j = one-result (yearOfDayAnswer j)
+
+pub delay-one : (w t : ℕ) (isLeap afterLeap : Bool) (r s : ℕ) → IsDelay w t isLeap afterLeap r → IsDelay w t isLeap afterLeap s → r ≡ s
+delay-one w t isLeap afterLeap r s p q = p .0 ∙ sym (q .0)
+
+pub year-span-one : (h : ℕ) (r s : Span) → Spans h r → Spans h s → r ≡ s
+year-span-one h r s p q =
+    λ i. record {
+      year = (p .year ∙ sym (q .year)) i;
+      «new_year» = (p .begins ∙ sym (q .begins)) i;
+      length = (p .days ∙ sym (q .days)) i;
+    }
+
+pub year-holding-one : (j : ℕ) (r s : Span) → Spans (yearOf j) r → Spans (yearOf j) s → r ≡ s
+year-holding-one j = year-span-one (yearOf j)

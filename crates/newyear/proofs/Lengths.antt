@@ -4,15 +4,16 @@ use mathlib.Core.Path.{_≡_, refl}
 use mathlib.Core.Bool.{Bool, true, false, _&&_, not, Bool·beq}
 use mathlib.Core.List.{List, [], _∷_}
 use mathlib.Core.Logic.{by-cases}
-use Prim.Native.Nat.{ℕ, zero, suc, _+_, _*_, _-_, _/_, _%_, _≤_, _<_}
+use Prim.Native.Nat.{ℕ, zero, suc, _+_, _*_, _-_, _≤_, _<_}
 use native.Mathlib.Omega.{arith}
 use native.Mathlib.Decide.{ℕ-discrete}
 use lib.Dec.{ltb, leb}
 use borrow.Author.Tests.{ltb-true, leb-true, not-true}
 use Rattle.laws.specs.Runs.{eachOf, elem, outside}
 use Rattle.laws.proofs.Tests.{and-left, and-right, of, within, all, Each, facts, beq-true}
+use Rattle.days.specs.Range.{firstDay}
 use Rattle.days.specs.Weekday.{weekday}
-use Rattle.molad.specs.Years.{leap}
+use Rattle.molad.specs.Years.{lastNewYear, leap}
 use Rattle.newyear.specs.NewYear.{newYear, yearLength}
 use Rattle.newyear.specs.Kinds.{lengths, IsLength, kinds, kindOf}
 use Rattle.newyear.proofs.Quick.{quick, newYear-quick}
@@ -38,7 +39,7 @@ walk : ℕ → ℕ → ℕ → Bool
 walk zero h a = true
 walk (suc n) h a = let b = quick (h + 1) in all (tests h a b) && walk n (h + 1) b
 
-walk-all : walk 10000 1 347998 ≡ true
+walk-all : walk lastNewYear 1 firstDay ≡ true
 unfolding walk tests quick leap
 walk-all = refl
 
@@ -50,13 +51,13 @@ walk-at (suc n) h a q e k l u =
     (λ s. rw (s, q) (and-left _ _ e))
     (λ s. walk-at n (h + 1) (quick (h + 1)) refl (and-right (all (tests h a (quick (h + 1)))) _ e) k (omega arith) (omega arith))
 
-first-quick : quick 1 ≡ 347998
+first-quick : quick 1 ≡ firstDay
 unfolding quick
 first-quick = refl
 
-module _ (h : ℕ) (l : 1 ≤ h) (u : h ≤ 10000) where
+module _ (h : ℕ) (l : 1 ≤ h) (u : h ≤ lastNewYear) where
   passed : Each (tests h (quick h) (quick (h + 1)))
-  passed = facts (tests h (quick h) (quick (h + 1))) (walk-at 10000 1 347998 first-quick walk-all h l (omega arith))
+  passed = facts (tests h (quick h) (quick (h + 1))) (walk-at lastNewYear 1 firstDay first-quick walk-all h l (omega arith))
 
   -- New Years rise.
   pub rises : newYear h < newYear (h + 1)

@@ -1,6 +1,5 @@
 -- New Year from the closed month count: it computes at once, so the tests over years compute with it.
-use mathlib.Core.Path.{_≡_, refl}
-use mathlib.Core.Bool.{Bool}
+use mathlib.Core.Path.{_≡_}
 use Prim.Native.Nat.{ℕ, _+_, _*_, _-_, _/_, _%_, _≤_}
 use native.Mathlib.Omega.{arith}
 use Rattle.days.specs.Weekday.{weekday}

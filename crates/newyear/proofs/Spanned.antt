@@ -2,7 +2,8 @@
 use mathlib.Core.Path.{_≡_}
 use Prim.Native.Nat.{ℕ, _+_, _-_, _≤_, _<_}
 use native.Mathlib.Omega.{arith}
-use Rattle.days.specs.Range.{firstDay, lastDay}
+use Rattle.days.specs.Range.{InRange}
+use Rattle.molad.specs.Years.{lastYear}
 use Rattle.newyear.specs.NewYear.{newYear, yearLength, yearOf}
 use Rattle.newyear.specs.Spans.{Spans}
 use Rattle.newyear.specs.declared.span.Span.{Span}
@@ -10,7 +11,7 @@ use Rattle.newyear.proofs.Lengths.{length-in, near}
 use Rattle.newyear.proofs.Rise.{rise-le}
 use Rattle.newyear.proofs.YearOf.{first, held}
 
-pub spans : (h : ℕ) (s : Span) → 1 ≤ h → h ≤ 9999 → s .year ≡ h → s .«new_year» ≡ newYear h → s .length ≡ newYear (h + 1) - newYear h → Spans h s
+pub spans : (h : ℕ) (s : Span) → 1 ≤ h → h ≤ lastYear → s .year ≡ h → s .«new_year» ≡ newYear h → s .length ≡ newYear (h + 1) - newYear h → Spans h s
 unfolding yearLength
 spans h s l u y b d =
     let n = near h l (omega arith) in
@@ -27,6 +28,6 @@ spans h s l u y b d =
     }
 
 -- A day lies in the span of the year that holds it.
-pub span-holds : (j : ℕ) (s : Span) → (firstDay ≤ j) × (j ≤ lastDay) → Spans (yearOf j) s → (s .«new_year» ≤ j) × (j < s .«new_year» + s .length)
+pub span-holds : (j : ℕ) (s : Span) → InRange j → Spans (yearOf j) s → (s .«new_year» ≤ j) × (j < s .«new_year» + s .length)
 unfolding yearLength
 span-holds j s r e = let i = held j (r .0) (r .1) in omega arith

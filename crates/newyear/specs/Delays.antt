@@ -2,7 +2,7 @@
 -- at time t, 0 to 25,919 parts from 18:00. They are stated for every weekday and every time: no year from 1 to 10,000 has
 -- a molad exactly on a limit where its rule applies, so that no test over years can tell "at or later" from "later".
 use mathlib.Core.Bool.{Bool, _&&_, not, cond}
-use mathlib.Core.List.{List, [], _∷_}
+use mathlib.Core.List.{[], _∷_}
 use Prim.Native.Nat.{ℕ, _+_, _%_}
 use lib.Dec.{eqb, ltb, leb}
 use Rattle.laws.specs.Runs.{elem}

@@ -3,3 +3,4 @@ pub mod NewYear
 pub mod Kinds
 pub mod Answers
 pub mod Spans
+pub mod Steps

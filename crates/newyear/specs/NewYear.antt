@@ -2,7 +2,7 @@
 use Prim.Native.Nat.{ℕ, _+_, _-_}
 use Rattle.laws.specs.Begun.{begun}
 use Rattle.days.specs.Weekday.{weekday}
-use Rattle.molad.specs.Years.{leap}
+use Rattle.molad.specs.Years.{lastYear, leap}
 use Rattle.molad.specs.Molad.{moladDay, moladTime}
 use Rattle.newyear.specs.Delays.{delay}
 
@@ -14,6 +14,6 @@ newYear h = moladDay h 1 + delay (weekday (moladDay h 1)) (moladTime h 1) (leap 
 unfoldable pub yearLength : ℕ → ℕ
 yearLength h = newYear (h + 1) - newYear h
 
--- The year that holds day j: as many of the years 1 to 9999 have begun by then. New Years rise, so it is the last of them.
+-- The year that holds day j: as many of the years covered have begun by then. New Years rise, so it is the last of them.
 unfoldable pub yearOf : ℕ → ℕ
-yearOf j = begun newYear 9999 j
+yearOf j = begun newYear lastYear j

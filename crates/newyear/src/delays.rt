@@ -1,7 +1,6 @@
 // The four delays.
-ghost use mathlib.Core.Path.{_≡_};
 ghost use Prim.Native.Nat.{_≤_};
-ghost use Rattle.newyear.specs.Delays.{delay as Delays·delay};
+ghost use Rattle.newyear.specs.Steps.{IsDelay};
 
 // The day begins at 18:00, so that noon is 18h 0p. Times are in parts, 1,080 to the hour.
 const NOON: u64 = 18 * 1080;
@@ -17,7 +16,7 @@ const CLOSED_DAYS: u64 = 338;
 // rule applies cannot be foretold, so that a branch would often be mispredicted.
 pub fn delay(weekday: u64, time: u64, leap: bool, after_leap: bool) -> u64
     requires { ⌜ (1 ≤ weekday) × (weekday ≤ 7) ⌝ }
-    ensures { λ r. ⌜ (r ≡ Delays·delay weekday time leap «after_leap») × (r ≤ 2) ⌝ }
+    ensures { λ r. ⌜ IsDelay weekday time leap «after_leap» r ⌝ }
 {
     let noon = laws::pick(NOON <= time, 1, 0);
     let later = noon + (CLOSED_DAYS >> (weekday + noon)) % 2;

@@ -102,6 +102,6 @@ pub fn year_of_day(day: u64) -> YearOfDayAnswer
     }
     YearOfDayAnswer {
         refusal: 0,
-        year: year_of(day),
+        year: year_of(day).year,
     }
 }

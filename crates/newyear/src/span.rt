@@ -1,8 +1,9 @@
 // A year with its New Year and length, asked for by its number or by a day in it.
-ghost use mathlib.Core.Path.{_≡_};
-ghost use Prim.Native.Nat.{_≤_};
+ghost use Rattle.days.specs.Range.{InRange};
+ghost use Rattle.molad.specs.Years.{InYears};
 ghost use Rattle.newyear.specs.NewYear.{yearOf};
 ghost use Rattle.newyear.specs.Spans.{Spans};
+ghost use Rattle.newyear.specs.Steps.{Finds};
 use crate::tishri::begins;
 
 pub struct Span {
@@ -13,7 +14,7 @@ pub struct Span {
 
 // A step, for the years 1 to 9999.
 pub fn year_span(year: u64) -> Span
-    requires { ⌜ (1 ≤ year) × (year ≤ 9999) ⌝ }
+    requires { ⌜ InYears year ⌝ }
     ensures { λ r. ⌜ Spans year r ⌝ }
 {
     let first = begins(year);
@@ -28,29 +29,48 @@ pub fn year_span(year: u64) -> Span
 // The year that holds a day is found by one guess by division, in years of 365¼ days, which is the year before or the
 // year itself, and one New Year to tell which.
 
-// A step, for the days of the range.
-pub fn year_of(day: u64) -> u64
-    requires { ⌜ (347998 ≤ day) × (day ≤ 4000075) ⌝ }
-    ensures { λ r. ⌜ (r ≡ yearOf day) × ((1 ≤ r) × (r ≤ 9999)) ⌝ }
+// New Year H comes in the H-th year of 365¼ days from this day on.
+const GUESS_FROM: u64 = 347_700;
+
+// The days of four such years.
+const FOUR_YEARS: u64 = 1_461;
+
+pub struct Found {
+    pub year: u64,
+    // The New Year that told, and whether the day comes before it: then it is the next year's, else the year's own.
+    pub new_year: u64,
+    pub early: bool,
+    // The year whose New Year is the other end.
+    pub other: u64,
+}
+
+// A step, for the days of the range: the year that holds the day.
+pub fn year_of(day: u64) -> Found
+    requires { ⌜ InRange day ⌝ }
+    ensures { λ r. ⌜ Finds day r ⌝ }
 {
-    let before = (day - 347_700) * 4 / 1461;
+    let before = (day - GUESS_FROM) * 4 / FOUR_YEARS;
     let t = begins(before + 1);
-    laws::pick(day < t.new_year, before, before + 1)
+    let early = day < t.new_year;
+    Found {
+        year: laws::pick(early, before, before + 1),
+        new_year: t.new_year,
+        early,
+        other: laws::pick(early, before, before + 2),
+    }
 }
 
 // A step, for the days of the range: the span of the year that holds the day.
 pub fn year_holding(day: u64) -> Span
-    requires { ⌜ (347998 ≤ day) × (day ≤ 4000075) ⌝ }
+    requires { ⌜ InRange day ⌝ }
     ensures { λ r. ⌜ Spans (yearOf day) r ⌝ }
 {
-    let before = (day - 347_700) * 4 / 1461;
-    let t = begins(before + 1);
-    let early = day < t.new_year;
-    let other = begins(laws::pick(early, before, before + 2));
-    let new_year = laws::pick(early, other.new_year, t.new_year);
+    let found = year_of(day);
+    let other = begins(found.other);
+    let new_year = laws::pick(found.early, other.new_year, found.new_year);
     Span {
-        year: laws::pick(early, before, before + 1),
+        year: found.year,
         new_year,
-        length: laws::pick(early, t.new_year, other.new_year) - new_year,
+        length: laws::pick(found.early, found.new_year, other.new_year) - new_year,
     }
 }

@@ -1,10 +1,9 @@
 -- What `notice` answers.
 use mathlib.Core.Bool.{cond}
 use Prim.Native.Nat.{ℕ, _/_, _%_}
-use Rattle.laws.specs.Runs.{outside}
 use Rattle.days.specs.Weekday.{weekday}
 use Rattle.molad.specs.Units.{partsInHour}
-use Rattle.molad.specs.Years.{leap}
+use Rattle.molad.specs.Years.{outOfYears, leap}
 use Rattle.molad.specs.Molad.{noMonth, moladDay, moladTime}
 use Rattle.notice.specs.Clock.{clockHour, minutes, partsOver}
 use Rattle.notice.specs.declared.NoticeAnswer.{NoticeAnswer}
@@ -27,6 +26,6 @@ noticeOf j t =
 -- Refusal 1: the year lies outside 1..9999. 2: the code lies outside 1..13, or is 6 in a common year.
 unfoldable pub noticeAnswer : ℕ → ℕ → NoticeAnswer
 noticeAnswer h code =
-    cond (outside 1 9999 h) (noNotice 1)
+    cond (outOfYears h) (noNotice 1)
     (cond (noMonth (leap h) code) (noNotice 2)
     (noticeOf (moladDay h code) (moladTime h code)))

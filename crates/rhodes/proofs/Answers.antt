@@ -1,14 +1,30 @@
--- One answer for each call, and the same from both routes.
+-- What `new_year_rhodes` promises, in Rhodes' own steps and in the counted New Year, and that its contract leaves one answer.
 use mathlib.Core.Path.{_≡_, _∙_}
 use Prim.Native.Nat.{ℕ}
 use Rattle.laws.proofs.One.{one-result}
+use Rattle.molad.specs.Molad.{moladDay, moladTime}
+use Rattle.newyear.specs.NewYear.{newYear}
 use Rattle.newyear.specs.Answers.{newYearAnswer}
 use Rattle.newyear.specs.declared.NewYearAnswer.{NewYearAnswer}
-use Rattle.rhodes.specs.Answers.{rhodesAnswer}
+use Rattle.newyear.proofs.Answers.{NewYearPromised, on-promised, new-year-promised}
+use Rattle.rhodes.specs.Steps.{rhodesNewYear, rhodesMoladDay, rhodesMoladTime}
+use Rattle.rhodes.specs.Answers.{rhodesAnswer, routeOf, IsRoute}
+use Rattle.rhodes.specs.declared.steps.Route.{Route}
 use Rattle.rhodes.proofs.Same.{same-answer}
 
+pub new-year-rhodes-promised : (h : ℕ) → NewYearPromised h (rhodesNewYear h) (rhodesMoladDay h) (rhodesMoladTime h) (rhodesAnswer h)
+unfolding rhodesAnswer
+new-year-rhodes-promised h = on-promised h (rhodesNewYear h) (rhodesMoladDay h) (rhodesMoladTime h)
+
+pub new-year-rhodes-counted : (h : ℕ) → NewYearPromised h (newYear h) (moladDay h 1) (moladTime h 1) (rhodesAnswer h)
+new-year-rhodes-counted h = rw (same-answer h) (new-year-promised h)
+
+-- One answer, and one result of the step.
 pub new-year-rhodes-one : (h : ℕ) (r s : NewYearAnswer) → r ≡ rhodesAnswer h → s ≡ rhodesAnswer h → r ≡ s
 new-year-rhodes-one h = one-result (rhodesAnswer h)
+
+pub route-of-one : (h : ℕ) (r s : Route) → IsRoute h r → IsRoute h s → r ≡ s
+route-of-one h r s p q = one-result (routeOf h) r s (p .0) (q .0)
 
 -- What `new_year_rhodes` may return is what `new_year` may return.
 pub same-results : (h : ℕ) (r s : NewYearAnswer) → r ≡ rhodesAnswer h → s ≡ newYearAnswer h → r ≡ s

@@ -5,15 +5,15 @@ use mathlib.Core.Path.{_≡_}
 use Prim.Native.Nat.{ℕ, _+_, _*_, _-_, _/_, _%_, _≤_, _<_}
 use native.Mathlib.Omega.{arith}
 use Rattle.civil.proofs.Theorems.{august}
-use Rattle.molad.specs.Years.{monthsBefore}
+use Rattle.molad.specs.Years.{lastNewYear, monthsBefore}
 use Rattle.molad.specs.Molad.{moladAfter, moladDay, moladTime}
 use Rattle.molad.proofs.Closed.{months-closed}
 use Rattle.newyear.proofs.Quick.{tishri-day, tishri-time}
 use Rattle.rhodes.specs.Steps.{place, sinceLeap, distance, dayOfAugust, moladAugust, moladPart, rhodesMoladDay, rhodesMoladTime}
-use Rattle.rhodes.proofs.Place.{place-left}
+use Rattle.rhodes.proofs.Place.{place-remainder}
 
 -- D is above zero up to year 10,000.
-pub above-zero : (h : ℕ) → h ≤ 10000 → 0 < distance h
+pub above-zero : (h : ℕ) → h ≤ lastNewYear → 0 < distance h
 unfolding distance
 above-zero h u = omega arith
 
@@ -25,7 +25,7 @@ august-day h d l = august h d l
 module _ (h : ℕ) (l : 1 ≤ h) (z : 0 < distance h) where
   -- The months, 19 times: 235 for each year, less 252, and n.
   nineteen-months : 19 * monthsBefore h + 252 ≡ 235 * h + place h
-  nineteen-months = omega (arith, months-closed h l, place-left h l)
+  nineteen-months = omega (arith, months-closed h l, place-remainder h l)
 
   -- Both routes count the same parts, in nineteenths.
   nineteen-parts : 19 * moladAfter (monthsBefore h) ≡ distance h + 492480 * dayOfAugust h 0

@@ -8,14 +8,13 @@ use native.Mathlib.Omega.{arith}
 use native.Mathlib.Nat.{mul-add-mod-self-left}
 use native.Mathlib.Decide.{decLe}
 use borrow.Author.Tests.{le-leb, lt-leb}
-use Rattle.laws.specs.Runs.{outside}
 use Rattle.laws.proofs.Tests.{within}
 use Rattle.days.specs.Weekday.{weekday}
-use Rattle.molad.specs.Years.{leap}
+use Rattle.molad.specs.Years.{lastNewYear, outOfNewYears, leap}
 use Rattle.molad.specs.Molad.{moladDay, moladTime}
 use Rattle.newyear.specs.Delays.{delay}
 use Rattle.newyear.specs.NewYear.{newYear}
-use Rattle.newyear.specs.Answers.{newYearAnswer}
+use Rattle.newyear.specs.Answers.{newYearOn, newYearAnswer}
 use Rattle.rhodes.specs.Steps.{place, sinceLeap, distance, moladAugust, moladPart, pastNoon, noonAugust, noonPart, weekdayOfAugust, lateBy, delayOf, dayOfAugust, rhodesNewYear, rhodesMoladDay, rhodesMoladTime}
 use Rattle.rhodes.specs.Answers.{rhodesAnswer}
 use Rattle.rhodes.proofs.Place.{common, after-leap}
@@ -69,17 +68,18 @@ module _ (h : ℕ) (l : 1 ≤ h) (z : 0 < distance h) where
       (same-late-before (leap h) (leap (h - 1)) (place h) w t (common h l) (after-leap h l) (omega arith) (omega arith) (omega arith)))
 
 -- For every year from 1 to 10,000: before any delay the same molad, day and part of the day; and the same New Year.
-pub same-route : (h : ℕ) → 1 ≤ h → h ≤ 10000 → (rhodesMoladDay h ≡ moladDay h 1) × ((rhodesMoladTime h ≡ moladTime h 1) × (rhodesNewYear h ≡ newYear h))
+pub same-route : (h : ℕ) → 1 ≤ h → h ≤ lastNewYear → (rhodesMoladDay h ≡ moladDay h 1) × ((rhodesMoladTime h ≡ moladTime h 1) × (rhodesNewYear h ≡ newYear h))
 same-route h l u =
     let z = above-zero h u in (same-molad-day h l z, (same-molad-time h l z, same-new-year h l z))
 
--- The two public answers, for every argument.
-answers : (h : ℕ) (b : Bool) → outside 1 10000 h ≡ b → rhodesAnswer h ≡ newYearAnswer h
+-- The two public answers where they are done, and so for every argument.
+same-on : (h : ℕ) → 1 ≤ h → h ≤ lastNewYear → newYearOn (rhodesNewYear h) (rhodesMoladDay h) (rhodesMoladTime h) ≡ newYearOn (newYear h) (moladDay h 1) (moladTime h 1)
+same-on h l u = let s = same-route h l u in rw (s .0, s .1 .0, s .1 .1)
+
+answers : (h : ℕ) (b : Bool) → outOfNewYears h ≡ b → rhodesAnswer h ≡ newYearAnswer h
 unfolding rhodesAnswer newYearAnswer
 answers h true e = rw e
-answers h false e =
-    let w = within 1 10000 h e in
-    let s = same-route h (w .0) (w .1) in rw (e, s .0, s .1 .0, s .1 .1)
+answers h false e = let w = within 1 lastNewYear h e in rw e (same-on h (w .0) (w .1))
 
 pub same-answer : (h : ℕ) → rhodesAnswer h ≡ newYearAnswer h
-same-answer h = answers h (outside 1 10000 h) refl
+same-answer h = answers h (outOfNewYears h) refl

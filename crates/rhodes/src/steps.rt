@@ -1,8 +1,9 @@
 // Rhodes' steps, in numbers that stay below 2³².
 ghost use mathlib.Core.Path.{_≡_};
-ghost use Prim.Native.Nat.{_≤_, _<_};
+ghost use Prim.Native.Nat.{_≤_};
+ghost use Rattle.molad.specs.Years.{InNewYears};
 ghost use Rattle.rhodes.specs.Steps.{lateBy};
-ghost use Rattle.rhodes.specs.Answers.{routeOf};
+ghost use Rattle.rhodes.specs.Answers.{IsRoute};
 
 pub struct Route {
     // n, the year's place in the cycle of 19 years.
@@ -37,8 +38,8 @@ pub fn late_by(place: u64, weekday: u64, part: u64) -> u64
 
 // A step, for the years 1 to 10,000.
 pub fn route_of(year: u64) -> Route
-    requires { ⌜ (1 ≤ year) × (year ≤ 10000) ⌝ }
-    ensures { λ r. ⌜ (r ≡ routeOf year) × ((r .«molad_august» ≤ 70) × ((r .august ≤ 71) × (r .delay ≤ 2))) ⌝ }
+    requires { ⌜ InNewYears year ⌝ }
+    ensures { λ r. ⌜ IsRoute year r ⌝ }
 {
     let place = (12 * year + 5) % 19;
     let since_leap = (year - 1) % 4;

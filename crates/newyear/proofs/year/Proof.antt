@@ -1,11 +1,14 @@
 use borrow.Author.Needs.{needs}
 use native.Mathlib.Omega.{arith}
 use Rattle.laws.proofs.Tests.{within}
-use Rattle.molad.specs.Years.{monthsIn}
+use Rattle.molad.specs.Years.{lastYear, InYears, monthsIn}
 use Rattle.newyear.specs.Answers.{yearAnswer}
 use Rattle.newyear.proofs.Lengths.{length-leap}
 use Rattle.newyear.proofs.year.Statement.{statement}
 use Rattle.newyear.proofs.year.Tie as tie
+
+good : (c : tie.Else1) → InYears (c .before .args .year)
+good c = within 1 lastYear (c .before .args .year) (c .if1 .left)
 
 pub year-spec : {M : Type 1} → statement M
 unfolding yearAnswer monthsIn
@@ -13,7 +16,7 @@ year-spec =
     tie.close
     (tie.spec
     (λ c. rw (c .if1 .taken))
-    (λ c κs. within 1 9999 (c .before .args .year) (c .if1 .left))
+    (λ c κs. good c)
     (search needs)
     (search needs)
     (λ c.

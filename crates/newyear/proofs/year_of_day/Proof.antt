@@ -13,4 +13,4 @@ year-of-day-spec =
     (λ c. rw (← c .before .out-of-range .ensures, c .if1 .taken))
     (λ c κs.
     let b = c .before in in-range (b .before .args .day) (b .out-of-range .ensures) (c .if1 .left))
-    (λ c. rw (← c .before .before .out-of-range .ensures, c .before .if1 .left, c .year-of .ensures .0)))
+    (λ c. rw (← c .before .before .out-of-range .ensures, c .before .if1 .left, c .year-of .ensures .year)))

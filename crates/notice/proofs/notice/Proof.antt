@@ -1,7 +1,7 @@
 -- A refused molad is a refused notice; past both refusals the notice is that of the molad's day and time.
 use borrow.Author.Needs.{needs}
 use mathlib.Core.Path.{_∙_}
-use Rattle.notice.specs.Answers.{noticeAnswer}
+use native.Mathlib.Omega.{arith}
 use Rattle.notice.proofs.Told.{Given, given, no-notice}
 use Rattle.notice.proofs.notice.Statement.{statement}
 use Rattle.notice.proofs.notice.Tie as tie
@@ -17,11 +17,10 @@ told : (c : tie.Else1) → let m = c .before .before in let a = m .before .args 
 told c = let m = c .before .before in given (m .before .args .year) (m .before .args .month) (m .molad .result) (m .molad .ensures) (c .if1 .left)
 
 returns-2 : tie.Need-returns-2
-unfolding noticeAnswer
 returns-2 c =
     let w = c .before .before .before in
     let g = told (w .before) in
-    rw (g .year, g .month, w .weekday-of .ensures, g .day, g .hour, g .part)
+    rw (← g .notice, w .weekday-of .ensures, g .day, g .hour, g .part)
 
 pub notice-spec : {M : Type 1} → statement M
 notice-spec =
@@ -30,7 +29,7 @@ notice-spec =
     (search needs)
     (search needs)
     returns
-    (λ c κs. told c .near)
+    (λ c κs. let g = told c in omega arith)
     (λ c. let g = told (c .before .before) in search needs)
     (search needs)
     returns-2)

@@ -1,27 +1,23 @@
 use borrow.Author.Needs.{needs}
-use Prim.Native.Nat.{_≤_}
 use native.Mathlib.Omega.{arith}
 use Rattle.laws.proofs.Tests.{within}
+use Rattle.molad.specs.Years.{lastNewYear, InNewYears}
 use Rattle.rhodes.specs.Steps.{rhodesNewYear, rhodesMoladDay, rhodesMoladTime}
 use Rattle.rhodes.specs.Answers.{rhodesAnswer, routeOf}
 use Rattle.rhodes.proofs.new_year_rhodes.Statement.{statement}
 use Rattle.rhodes.proofs.new_year_rhodes.Tie as tie
 
-good : (c : tie.Else1) → (1 ≤ c .before .args .year) × (c .before .args .year ≤ 10000)
-good c = within 1 10000 (c .before .args .year) (c .if1 .left)
+good : (c : tie.Else1) → InNewYears (c .before .args .year)
+good c = within 1 lastNewYear (c .before .args .year) (c .if1 .left)
 
 returns-2 : tie.Need-returns-2
 unfolding rhodesAnswer routeOf rhodesNewYear rhodesMoladDay rhodesMoladTime
 returns-2 c =
-    let d = c .before .before .before .before in
+    let m = c .before .before in
+    let w = m .before in
+    let d = w .before in
     let r = d .before .before in
-    rw (
-      r .before .if1 .left,
-      c .before .before .before .weekday-of .ensures,
-      d .day-of-august .ensures .0,
-      c .before .before .day-of-august2 .ensures .0,
-      r .route-of .ensures .0,
-    )
+    rw (r .before .if1 .left, w .weekday-of .ensures, d .day-of-august .ensures .0, m .day-of-august2 .ensures .0, r .route-of .ensures .0)
 
 pub new-year-rhodes-spec : {M : Type 1} → statement M
 unfolding rhodesAnswer

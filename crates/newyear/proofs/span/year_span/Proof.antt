@@ -10,7 +10,7 @@ returns c =
     let n = c .before .before in
     let t = n .before in
     let h = t .before .args .year in
-    spans h _ (omega arith) (omega arith) (omega arith) (t .begins .ensures .0 .0) (rw (t .begins .ensures .0 .0, n .begins2 .ensures .0 .0))
+    spans h _ (omega arith) (omega arith) (omega arith) (t .begins .ensures .day) (rw (t .begins .ensures .day, n .begins2 .ensures .day))
 
 pub year-span-spec : {M : Type 1} → statement M
 year-span-spec =

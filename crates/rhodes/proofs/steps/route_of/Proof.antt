@@ -19,7 +19,7 @@ returns c =
     let n = c .before .before in
     let h = n .before .args .year in
     let i = moladAugust h in (
-      rw (c .late-by .ensures .0, c .before .pick2 .ensures .0, n .pick .ensures .0, noon-part (moladPart h) .1),
+      rw (c .late-by .ensures .0, c .before .pick2 .ensures .0, n .pick .ensures .0, noon-part _ .1),
       (
         omega arith,
         (
