@@ -8,6 +8,7 @@ pub mod JulianYears
 pub mod GregorianYears
 pub mod Raising
 pub mod Divisible
+pub mod Steps
 pub mod Answers
 pub mod RoundTrips
 pub mod Theorems
