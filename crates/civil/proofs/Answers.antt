@@ -1,5 +1,5 @@
 -- What the public functions promise, shown once for any calendar; and that each contract leaves one answer.
-use mathlib.Core.Path.{_≡_, refl, _∙_, sym}
+use mathlib.Core.Path.{_≡_, refl, sym, _∙_, ap}
 use mathlib.Core.Bool.{Bool, true, false, not, false≢true}
 use mathlib.Core.Logic.{_↔_}
 use Prim.Native.Nat.{ℕ, _≤_}
@@ -59,7 +59,8 @@ module _ (cal : Calendar) (LeapYear : ℤ → Type 0) (told : (y : ℤ) → cove
       let g = one .good in
       let year = raised-lowered (x .year) (g .first-year) (one .last) in
       let month = month-told (cal .leap (x .year)) (x .month) (x .day) (rw (year .1) at (told (lowered (x .year)) (year .0))) in
-      answered refl ((in-years (lowered (x .year)) (year .0), ((g .first-month, g .last-month), month .0 (g .first-day, g .last-day))), rw (year .1) (one .counted)))
+      let counted = ap (λ (s : ℕ). dayOf cal s (x .month) (x .day)) (year .1) ∙ one .counted in
+      answered refl (counted, (in-years (lowered (x .year)) (year .0), ((g .first-month, g .last-month), month .0 (g .first-day, g .last-day)))))
 
 pub julian-to-day-promised : (y : ℤ) (m d : ℕ) → PromisedDay julian JulianLeapYear y m d (civilDay julian y m d)
 julian-to-day-promised = day-promised julian JulianLeapYear julian-leap-year

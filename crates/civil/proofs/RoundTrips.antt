@@ -35,11 +35,11 @@ module _ (cal : Calendar) (c : Covers cal) where
       let in-range = within firstDay lastDay j o in
       let date = date-promised cal Leap (λ y _. itself y) c j .values (in-range, tt) in
       let answer = day-promised cal Leap (λ y _. itself y) (r .year) (r .month) (r .day) in
-      let good = date .0 in
-      let day-in-range : InRange (dayOf cal (raised (r .year)) (r .month) (r .day)) = rw (date .1) in-range in
+      let good = date .1 in
+      let day-in-range : InRange (dayOf cal (raised (r .year)) (r .month) (r .day)) = rw (date .0) in-range in
       λ i. record {
         refusal = answer .done .1 (good .0, (good .1 .0, (good .1 .1, (day-in-range, tt)))) i;
-        day = (answer .values (good .0, (good .1 .0, (good .1 .1, (day-in-range, tt)))) ∙ date .1) i;
+        day = (answer .values (good .0, (good .1 .0, (good .1 .1, (day-in-range, tt)))) ∙ date .0) i;
       }
 
   pub back-and-there :

@@ -31,12 +31,12 @@ PromisedDay cal LeapYear y m d =
     (λ r. r .day ≡ dayOf cal (raised y) m d)
     (λ n r. r .day ≡ 0)
 
--- From a day to its date: the date answered is good, and its day is the day asked.
+-- From a day to its date: the date answered has that day, and is good.
 abbrev pub PromisedDate : Calendar → (ℤ → Type 0) → ℕ → CivilDate → Type 0
 PromisedDate cal LeapYear j =
     Promised (λ (r : CivilDate). r .refusal)
     (InRange j else 4 ∷ [])
     (λ r.
-    (InCivilYears (r .year) × (IsCivilMonth (r .month) × InCivilMonth (LeapYear (r .year)) (r .month) (r .day)))
-    × (dayOf cal (raised (r .year)) (r .month) (r .day) ≡ j))
+    (dayOf cal (raised (r .year)) (r .month) (r .day) ≡ j)
+    × (InCivilYears (r .year) × (IsCivilMonth (r .month) × InCivilMonth (LeapYear (r .year)) (r .month) (r .day))))
     (λ n r. (r .year ≡ pos 0) × ((r .month ≡ 0) × (r .day ≡ 0)))
