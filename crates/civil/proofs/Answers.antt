@@ -11,7 +11,7 @@ use Rattle.laws.proofs.Promises.{Catches, ranged, asks, answered}
 use Rattle.days.specs.Range.{firstDay, lastDay}
 use Rattle.civil.specs.Signed.{InCivilYears, covered, raised, lowered, JulianLeapYear, GregorianLeapYear}
 use Rattle.civil.specs.Calendar.{Calendar, julian, gregorian, monthDays, dayOf}
-use Rattle.civil.specs.Date.{Date, dateOf}
+use Rattle.civil.specs.Date.{dateOf}
 use Rattle.civil.specs.Answers.{noDay, civilDay, noDate, civilDate}
 use Rattle.civil.specs.Promises.{InCivilMonth, PromisedDay, PromisedDate}
 use Rattle.civil.specs.declared.CivilDay.{CivilDay}

@@ -8,7 +8,7 @@ use native.Mathlib.Decide.{decLt}
 use borrow.Author.Tests.{leb-true, le-leb, le-ltb, lt-ltb}
 use lib.Dec.{T}
 use lib.IntN.{ℤ, pos, negsuc, _+ℤ_}
-use lib.Signed.{leZ, _≤ℤ_, leZ-yes}
+use lib.Signed.{leZ, leZ-yes}
 use Rattle.laws.proofs.Tests.{and-left, and-right}
 use Rattle.civil.specs.Calendar.{firstRaised, lastRaised}
 use Rattle.civil.specs.Signed.{firstCivilYear, lastCivilYear, InCivilYears, covered, raised, lowered}

@@ -1,6 +1,6 @@
 -- Lines and figures: the first line as a part of the input, one more figure, and how large a number figures make.
 use mathlib.Core.Path.{_≡_, refl, sym, ap, _∙_}
-use mathlib.Core.Bool.{Bool, true, false, not, cond}
+use mathlib.Core.Bool.{Bool, true, false, cond}
 use mathlib.Core.List.{List, [], _∷_, _++_}
 use Prim.Native.Nat.{ℕ, zero, suc, _+_, _*_, _-_, _^_, _≤_, _<_}
 use native.Mathlib.Nat.{mul-assoc, pow-suc, pow-le-pow-right}
@@ -8,9 +8,9 @@ use native.Mathlib.Numerals.{add-one}
 use native.Mathlib.Omega.{arith}
 use borrow.Author.Tests.{not-true, le-ltb}
 use lib.Dec.{eqb, lit<}
-use lib.ListN.{length, take, getD, length-append}
+use lib.ListN.{length, take, length-append}
 use Rattle.bytes.specs.Bytes.{indexOf, indexAfter}
-use Rattle.laws.specs.Runs.{outside, eachOf}
+use Rattle.laws.specs.Runs.{eachOf}
 use Rattle.laws.proofs.Tests.{within, and-left, and-right}
 use Rattle.line.specs.Line.{firstLine, figure, AllFigures, decimal}
 

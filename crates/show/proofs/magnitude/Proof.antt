@@ -1,7 +1,6 @@
 -- The steps are those of std's nearest_i64_to_f64, and its lemmas say that each is defined.
-use borrow.Author.Needs.{needs}
 use mathlib.Core.Path.{_≡_, refl, sym, _∙_}
-use mathlib.Core.Bool.{true, false, true≢false}
+use mathlib.Core.Bool.{false, true≢false}
 use Prim.Native.Nat.{zero, suc, _+_}
 use native.Mathlib.Omega.{arith}
 use lib.Dec.{lit≤, leb·zero}
