@@ -1,6 +1,6 @@
 -- The Gregorian years: the leap rule by the year's place in its century, and the days of the years from −3760 on.
 use mathlib.Core.Path.{_≡_, refl, _∙_}
-use mathlib.Core.Bool.{Bool, true, false, _&&_, not, cond}
+use mathlib.Core.Bool.{Bool, _&&_, not, cond, Bool·not-not, and-true}
 use mathlib.Core.Logic.{by-cases}
 use Prim.Native.Nat.{ℕ, zero, suc, _+_, _*_, _/_, _%_, _<_}
 use native.Mathlib.Omega.{arith}
@@ -8,7 +8,7 @@ use native.Mathlib.Nat.{mul-add-mod-self-left, mul-add-div}
 use native.Mathlib.Decide.{ℕ-discrete}
 use borrow.Author.Tests.{eq-eqb, ne-eqb}
 use lib.Dec.{eqb, lit<}
-use Rattle.civil.specs.Calendar.{yearDays, yearsDays, firstYear, divisible, gregorianLeap}
+use Rattle.civil.specs.Calendar.{yearDays, yearsDays, firstRaised, divisible, gregorianLeap}
 use Rattle.civil.proofs.MonthStarts.{year-days}
 use Rattle.civil.proofs.Years.{fourth}
 
@@ -43,14 +43,6 @@ pub fours : (q r n : ℕ) → (100 * q + r + n) / 4 ≡ 25 * q + (r + n) / 4
 fours q r n =
     let e : 100 * q + r + n ≡ 4 * (25 * q) + (r + n) = omega arith in rw e (mul-add-div (lit< tt) (25 * q) (r + n))
 
-not-not : (t : Bool) → not (not t) ≡ t
-not-not true = refl
-not-not false = refl
-
-pub and-true : (t : Bool) → t && true ≡ t
-and-true true = refl
-and-true false = refl
-
 -- One year on: a leap day, or none.
 leap-day :
     (q r : ℕ) → r < 100 → let s = 100 * q + r in
@@ -63,7 +55,7 @@ leap-day q r h =
     (λ b.
     let at : centuries s ≡ q = omega arith in
     let after : centuries (s + 1) ≡ q + 1 = omega arith in
-    let one : leapAt q r ≡ divisible 4 q = rw (b, not-not (divisible 4 q)) in
+    let one : leapAt q r ≡ divisible 4 q = rw (b, Bool·not-not (divisible 4 q)) in
     rw (at, after, three, four, one, b) (omega (arith, fourth q)))
     (λ b.
     let at : centuries s ≡ q + 1 = omega arith in
@@ -82,15 +74,15 @@ one-more years year leap k fours hundreds fourHundreds fours' hundreds' fourHund
 -- The days of the Gregorian years from −3760 on. From the raised year 0 to −3760 there are 60 multiples of 4, 3 of 100
 -- and 1 of 400.
 pub gregorian-years :
-    (k : ℕ) → let s = firstYear + k in
+    (k : ℕ) → let s = firstRaised + k in
     yearsDays gregorianLeap k + 58 + centuries s ≡ 365 * k + (s + 3) / 4 + (centuries s + 3) / 4
 unfolding yearsDays
 gregorian-years zero = refl
 gregorian-years (suc k) =
-    let s = firstYear + k in
+    let s = firstRaised + k in
     let e : 100 * (s / 100) + s % 100 ≡ s = omega arith in
     let t = rw (← rule (s / 100) (s % 100) (omega arith), e) at (leap-day (s / 100) (s % 100) (omega arith)) in
-    let f : firstYear + suc k ≡ s + 1 = omega arith in
+    let f : firstRaised + suc k ≡ s + 1 = omega arith in
     rw f
     (one-more (yearsDays gregorianLeap k) (yearDays (gregorianLeap s)) (cond (gregorianLeap s) 1 0) k ((s + 3) / 4) (centuries s)
     ((centuries s + 3) / 4) ((s + 1 + 3) / 4) (centuries (s + 1)) ((centuries (s + 1) + 3) / 4) (gregorian-years k) (year-days (gregorianLeap s)) t)

@@ -7,9 +7,9 @@ use native.Mathlib.Omega.{arith}
 use native.Mathlib.Decide.{ℕ-discrete, decLt}
 use borrow.Author.Tests.{lt-ltb, le-ltb}
 use Rattle.days.specs.Range.{firstDay, lastDay}
-use Rattle.civil.specs.Calendar.{Calendar, monthDays, daysBefore, yearDays, yearsDays, firstYear, lastYear, daysTo, dayOf}
+use Rattle.civil.specs.Calendar.{Calendar, monthDays, daysBefore, yearDays, yearsDays, firstRaised, lastRaised, daysTo, dayOf}
 use Rattle.civil.specs.Date.{Date, tomorrow, daysOn, dateOf}
-use Rattle.civil.specs.Good.{day, Good, OneDate}
+use Rattle.civil.specs.Good.{day, GoodCivilDate, OneDate}
 use Rattle.civil.proofs.MonthStarts.{january, next-month, month-long, year-whole, months-rise, one-month}
 use Rattle.civil.proofs.Years.{next-year, years-rise}
 
@@ -18,16 +18,16 @@ to cal x = daysTo cal (x .year) (x .month) (x .day)
 
 -- What the theorems ask of a calendar: its first date is good, and the day range ends within 10,000 years.
 pub record Covers (cal : Calendar) : Type 0 where
-  pub first : Good cal (record { year = firstYear; month = cal .month; day = cal .day })
-  pub eve : daysTo cal firstYear (cal .month) (cal .day) ≤ firstDay
-  pub last : lastDay + daysTo cal firstYear (cal .month) (cal .day) ≤ firstDay + yearsDays (cal .leap) 10000
+  pub first : GoodCivilDate cal (record { year = firstRaised; month = cal .month; day = cal .day })
+  pub eve : daysTo cal firstRaised (cal .month) (cal .day) ≤ firstDay
+  pub last : lastDay + daysTo cal firstRaised (cal .month) (cal .day) ≤ firstDay + yearsDays (cal .leap) 10000
 
 record Next (cal : Calendar) (x y : Date) : Type 0 where
-  good : Good cal y
+  good : GoodCivilDate cal y
   more : to cal y ≡ to cal x + 1
 
 -- The next day's date is good, and is one day on.
-next : (cal : Calendar) (x : Date) → Good cal x → Next cal x (tomorrow (cal .leap) x)
+next : (cal : Calendar) (x : Date) → GoodCivilDate cal x → Next cal x (tomorrow (cal .leap) x)
 unfolding tomorrow daysTo
 next cal x g =
     let leap = cal .leap (x .year) in
@@ -60,14 +60,14 @@ next cal x g =
 
 module _ (cal : Calendar) (c : Covers cal) where
   -- n days after the first day's date.
-  on : (n : ℕ) → Good cal (daysOn cal n) × (to cal (daysOn cal n) ≡ daysTo cal firstYear (cal .month) (cal .day) + n)
+  on : (n : ℕ) → GoodCivilDate cal (daysOn cal n) × (to cal (daysOn cal n) ≡ daysTo cal firstRaised (cal .month) (cal .day) + n)
   unfolding daysOn
   on zero = (c .first, omega arith)
   on (suc n) =
       let y = next cal (daysOn cal n) (on n .0) in (y .good, omega (arith, on n .1))
 
   -- The date of a day is a good date.
-  pub date-good : (j : ℕ) → Good cal (dateOf cal j)
+  pub date-good : (j : ℕ) → GoodCivilDate cal (dateOf cal j)
   unfolding dateOf
   date-good j = on (j - firstDay) .0
 
@@ -77,22 +77,22 @@ module _ (cal : Calendar) (c : Covers cal) where
   day-of-date j l = omega (arith, on (j - firstDay) .1, c .eve)
 
 -- A good date's place in its year.
-in-year : (cal : Calendar) (x : Date) → Good cal x → (1 ≤ daysBefore (cal .leap (x .year)) (x .month) + x .day)
+in-year : (cal : Calendar) (x : Date) → GoodCivilDate cal x → (1 ≤ daysBefore (cal .leap (x .year)) (x .month) + x .day)
     × (daysBefore (cal .leap (x .year)) (x .month) + x .day ≤ yearDays (cal .leap (x .year)))
 in-year cal x g =
     let leap = cal .leap (x .year) in
     omega (arith, months-rise leap (x .month) 13 (omega arith), year-whole leap)
 
 -- An earlier year's date is an earlier date.
-year-before : (cal : Calendar) (x y : Date) → Good cal x → Good cal y → x .year < y .year → to cal x < to cal y
+year-before : (cal : Calendar) (x y : Date) → GoodCivilDate cal x → GoodCivilDate cal y → x .year < y .year → to cal x < to cal y
 unfolding daysTo
 year-before cal x y g h p =
-    let e : firstYear + (x .year - firstYear) ≡ x .year = omega arith in
-    let r = rw e at (years-rise (cal .leap) (x .year - firstYear) (y .year - firstYear) (omega arith)) in
+    let e : firstRaised + (x .year - firstRaised) ≡ x .year = omega arith in
+    let r = rw e at (years-rise (cal .leap) (x .year - firstRaised) (y .year - firstRaised) (omega arith)) in
     omega (arith, in-year cal x g, in-year cal y h)
 
 -- Dates with as many days to them are the same date.
-same : (cal : Calendar) (x y : Date) → Good cal x → Good cal y → to cal x ≡ to cal y → x ≡ y
+same : (cal : Calendar) (x y : Date) → GoodCivilDate cal x → GoodCivilDate cal y → to cal x ≡ to cal y → x ≡ y
 unfolding daysTo
 same cal x y g h e =
     let year : x .year ≡ y .year =
@@ -102,32 +102,32 @@ same cal x y g h e =
     let leap = cal .leap (x .year) in
     let before = ap (λ (s : ℕ). daysBefore (cal .leap s) (y .month)) year in
     let length = ap (λ (s : ℕ). monthDays (cal .leap s) (y .month)) year in
-    let years = ap (λ (s : ℕ). yearsDays (cal .leap) (s - firstYear)) year in
+    let years = ap (λ (s : ℕ). yearsDays (cal .leap) (s - firstRaised)) year in
     let place = daysBefore leap (x .month) + x .day - 1 in
     let md = one-month leap place (x .month) (x .day) (y .month) (y .day) (omega arith) (omega arith) in
     λ i. record { year = year i; month = md .0 i; day = md .1 i }
 
 -- A good date of a day is that day's date.
-pub only-date : (cal : Calendar) → Covers cal → (j : ℕ) → firstDay ≤ j → (x : Date) → Good cal x → day cal x ≡ j → x ≡ dateOf cal j
+pub only-date : (cal : Calendar) → Covers cal → (j : ℕ) → firstDay ≤ j → (x : Date) → GoodCivilDate cal x → day cal x ≡ j → x ≡ dateOf cal j
 unfolding dayOf
 only-date cal c j l x g e =
     same cal x (dateOf cal j) g (date-good cal c j) (omega (arith, day-of-date cal c j l, c .eve))
 
 -- What lies past the year 6239 lies past the range.
-last-year : (cal : Calendar) → Covers cal → (j : ℕ) → firstDay ≤ j → j ≤ lastDay → dateOf cal j .year ≤ lastYear
+last-year : (cal : Calendar) → Covers cal → (j : ℕ) → firstDay ≤ j → j ≤ lastDay → dateOf cal j .year ≤ lastRaised
 unfolding dayOf daysTo
 last-year cal c j l u =
     let x = dateOf cal j in
-    by-cases (decLt lastYear (x .year))
+    by-cases (decLt lastRaised (x .year))
     (λ p. absurd
-    (by-cases (ℕ-discrete (x .year - firstYear) 10000)
+    (by-cases (ℕ-discrete (x .year - firstRaised) 10000)
     (λ q. omega (arith, day-of-date cal c j l, in-year cal x (date-good cal c j), ap (yearsDays (cal .leap)) q, c .eve, c .last))
     (λ q.
     omega (
       arith,
       day-of-date cal c j l,
       in-year cal x (date-good cal c j),
-      years-rise (cal .leap) 10000 (x .year - firstYear) (omega arith),
+      years-rise (cal .leap) 10000 (x .year - firstRaised) (omega arith),
       c .eve,
       c .last,
     ))))
@@ -143,5 +143,5 @@ one-date cal c j l u =
     }
 
 -- Each good date from the first day on comes back from its own day.
-pub comes-back : (cal : Calendar) → Covers cal → (x : Date) → Good cal x → firstDay ≤ day cal x → dateOf cal (day cal x) ≡ x
+pub comes-back : (cal : Calendar) → Covers cal → (x : Date) → GoodCivilDate cal x → firstDay ≤ day cal x → dateOf cal (day cal x) ≡ x
 comes-back cal c x g l = sym (only-date cal c (day cal x) l x g refl)

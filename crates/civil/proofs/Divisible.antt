@@ -9,7 +9,7 @@ use native.Mathlib.Decide.{decLt}
 use native.Mathlib.Nat.{div-add-mod, mul-add, mul-sub, mul-mod-right, mul-le-mul-left, mul-lt-mul-of-pos-left}
 use borrow.Author.Tests.{eqb-true, eq-eqb, le-ltb, lt-ltb}
 use lib.IntN.{ℤ, pos, negsuc, subℕ, _*ℤ_}
-use Rattle.civil.specs.Signed.{covered, raised, Divides}
+use Rattle.civil.specs.Signed.{covered, raised, Divides, JulianLeapYear, GregorianLeapYear}
 use Rattle.civil.specs.Calendar.{divisible, julianLeap, gregorianLeap}
 use Rattle.civil.proofs.Raising.{lowered-raised}
 
@@ -53,7 +53,7 @@ pub divisible-by-400 : (y : ℤ) → covered y ≡ true → (divisible 400 (rais
 divisible-by-400 = same-divisor 400 10 (omega arith) refl
 
 -- Document 01's leap years, of the signed years themselves.
-pub julian-leap-year : (y : ℤ) → covered y ≡ true → (julianLeap (raised y) ≡ true) ↔ Divides 4 y
+pub julian-leap-year : (y : ℤ) → covered y ≡ true → (julianLeap (raised y) ≡ true) ↔ JulianLeapYear y
 unfolding julianLeap
 julian-leap-year = divisible-by-4
 
@@ -69,7 +69,7 @@ rule-of-three false b c p q r = (λ e. absurd (false≢true e), λ h. p .1 (h .0
 
 -- Divisible by 4, unless divisible by 100 and not by 400.
 pub gregorian-leap-year :
-    (y : ℤ) → covered y ≡ true → (gregorianLeap (raised y) ≡ true) ↔ (Divides 4 y × (¬ (Divides 100 y × (¬ Divides 400 y))))
+    (y : ℤ) → covered y ≡ true → (gregorianLeap (raised y) ≡ true) ↔ GregorianLeapYear y
 unfolding gregorianLeap
 gregorian-leap-year y c =
     let s = raised y in

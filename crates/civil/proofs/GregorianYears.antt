@@ -1,6 +1,6 @@
 -- The Gregorian calendar's years: a year's eve, and the year of a day.
 use mathlib.Core.Path.{_≡_, refl, sym, _∙_, ap}
-use mathlib.Core.Bool.{Bool, true, false, _&&_, not, cond}
+use mathlib.Core.Bool.{Bool, true, false, _&&_, not, cond, and-true, and-false}
 use mathlib.Core.Logic.{by-cases}
 use Prim.Native.Nat.{ℕ, _+_, _-_, _*_, _/_, _%_, _≤_, _<_}
 use native.Mathlib.Omega.{arith}
@@ -8,16 +8,16 @@ use native.Mathlib.Decide.{ℕ-discrete}
 use borrow.Author.Tests.{eq-eqb, ne-eqb}
 use lib.Dec.{eqb}
 use Rattle.days.specs.Range.{firstDay, lastDay}
-use Rattle.civil.specs.Calendar.{gregorian, gregorianLeap, monthDays, daysBefore, yearDays, yearsDays, firstYear, divisible, daysTo, dayOf}
-use Rattle.civil.specs.Steps.{InYear}
+use Rattle.civil.specs.Calendar.{gregorian, gregorianLeap, monthDays, daysBefore, yearDays, yearsDays, firstRaised, lastRaised, divisible, daysTo, dayOf}
+use Rattle.civil.specs.Steps.{IsYearDay}
 use Rattle.civil.specs.declared.YearDay.{YearDay}
 use Rattle.civil.proofs.MonthStarts.{january, year-days, at-most}
 use Rattle.civil.proofs.Years.{fourth}
-use Rattle.civil.proofs.Centuries.{leapAt, fourth-of, rule, centuries, and-true, fours, gregorian-years}
+use Rattle.civil.proofs.Centuries.{leapAt, fourth-of, rule, centuries, fours, gregorian-years}
 use Rattle.civil.proofs.Quarters.{place, short}
 use Rattle.civil.proofs.Dates.{Covers}
 
-pub gregorian-first : daysTo gregorian firstYear 9 7 ≡ 251
+pub gregorian-first : daysTo gregorian firstRaised 9 7 ≡ 251
 unfolding daysTo yearsDays daysBefore monthDays gregorianLeap
 gregorian-first = refl
 
@@ -32,16 +32,16 @@ gregorian-covers =
 
 -- The first day's date is 251 days into its year, so day 347,747 is the eve of 1 January −3760.
 pub gregorian-day :
-    (s m d : ℕ) → firstYear ≤ s →
+    (s m d : ℕ) → firstRaised ≤ s →
     dayOf gregorian s m d + centuries s ≡ 260089 + 365 * s + (s + 3) / 4 + (centuries s + 3) / 4 + daysBefore (gregorianLeap s) m + d
 unfolding dayOf daysTo
 gregorian-day s m d l =
-    let e : firstYear + (s - firstYear) ≡ s = omega arith in
-    let t = rw e at (gregorian-years (s - firstYear)) in
+    let e : firstRaised + (s - firstRaised) ≡ s = omega arith in
+    let t = rw e at (gregorian-years (s - firstRaised)) in
     omega (arith, gregorian-first)
 
 pub gregorian-eve :
-    (s : ℕ) → firstYear ≤ s → dayOf gregorian s 1 0 ≡ 260089 + 365 * s + (s + 3) / 4 + (centuries s + 3) / 4 - centuries s
+    (s : ℕ) → firstRaised ≤ s → dayOf gregorian s 1 0 ≡ 260089 + 365 * s + (s + 3) / 4 + (centuries s + 3) / 4 - centuries s
 gregorian-eve s l =
     let f = (s + 3) / 4 in
     let g = (centuries s + 3) / 4 in
@@ -101,7 +101,7 @@ module _ (c a k z : ℕ) (h : k < 100) (e : 365 * k + (k + 3) / 4 + z ≡ a + co
 
 -- Day n from the raised year 0 on is day y of year s.
 module _ (n s y : ℕ) (e : 365 * s + (s + 3) / 4 + (centuries s + 3) / 4 + y ≡ n + centuries s) where
-  covered : y < 366 → firstDay ≤ n + 260090 → n + 260090 ≤ lastDay → (firstYear ≤ s) × (s ≤ 10239)
+  covered : y < 366 → firstDay ≤ n + 260090 → n + 260090 ≤ lastDay → (firstRaised ≤ s) × (s ≤ lastRaised)
   covered h l u = omega arith
 
   counted : (days first : ℕ) → days + centuries s ≡ 260089 + 365 * s + (s + 3) / 4 + (centuries s + 3) / 4 + first + (y + 1) → first ≡ 0 → days ≡ n + 260090
@@ -128,7 +128,7 @@ yearDay j =
       day = 4 * since j % 1461 / 4 - cond (dropped (century j) (years j)) 1 0;
     }
 
-pub gregorian-in-year : (j : ℕ) → firstDay ≤ j → j ≤ lastDay → InYear gregorian j (yearDay j)
+pub gregorian-in-year : (j : ℕ) → firstDay ≤ j → j ≤ lastDay → IsYearDay gregorian j (yearDay j)
 gregorian-in-year j l u =
     let n = j - 260090 in
     let c = century j in
@@ -159,20 +159,7 @@ gregorian-in-year j l u =
     }
 
 -- A day is dropped only where one was put back.
-bit : (t : Bool) → cond t 1 0 ≤ 1
-bit true = omega arith
-bit false = omega arith
-
-in-first-year : (b : ℕ) → 4 * b / 1461 ≡ 0 → 1 ≤ b → 1 ≤ 4 * b % 1461 / 4
-in-first-year b e l = omega arith
-
-pub kept : (j : ℕ) → cond (dropped (century j) (years j)) 1 0 ≤ 4 * since j % 1461 / 4
-kept j =
-    by-cases (ℕ-discrete (years j) 0)
-    (λ p.
-    by-cases (ℕ-discrete (century j % 4) 0)
-    (λ q. rw (eq-eqb (years j) 0 p, eq-eqb (century j % 4) 0 q) (omega arith))
-    (λ q.
-    let e : since j ≡ quarters j % 146097 / 4 + 1 = rw (ne-eqb (century j % 4) 0 q) in
-    omega (arith, bit (dropped (century j) (years j)), in-first-year (since j) p (omega (arith, e)))))
-    (λ p. rw (ne-eqb (years j) 0 p) (omega arith))
+pub kept : (short : Bool) (a : ℕ) → let b = 4 * (a + cond short 1 0) in cond (eqb (b / 1461) 0 && short) 1 0 ≤ b % 1461 / 4
+kept true a =
+    by-cases (ℕ-discrete (4 * (a + 1) / 1461) 0) (λ p. rw (eq-eqb _ _ p) (omega arith)) (λ p. rw (ne-eqb _ _ p) (omega arith))
+kept false a = rw (and-false _) (omega arith)

@@ -1,3 +1,5 @@
+pub mod Raising
+pub mod Divisible
 pub mod MonthStarts
 pub mod MonthOf
 pub mod Years
@@ -6,8 +8,7 @@ pub mod Quarters
 pub mod Dates
 pub mod JulianYears
 pub mod GregorianYears
-pub mod Raising
-pub mod Divisible
+pub mod Steps
 pub mod Answers
 pub mod RoundTrips
 pub mod Theorems

@@ -10,7 +10,7 @@ use lib.ListN.{getD}
 use Rattle.laws.specs.Runs.{every}
 use Rattle.laws.proofs.Tests.{at, and-left, and-right, all, facts}
 use Rattle.civil.specs.Calendar.{monthDays, daysBefore, yearDays}
-use Rattle.civil.specs.Steps.{InMonth}
+use Rattle.civil.specs.Steps.{IsMonthDay}
 
 -- The code's tables: the days before each month, and in the whole year.
 abbrev pub starts : Bool → ℕ → ℕ
@@ -46,7 +46,7 @@ unfolding every tests daysBefore monthDays yearDays
 month-all true = refl
 month-all false = refl
 
-pub month-right : (leap : Bool) (y : ℕ) → y < yearDays leap → InMonth leap y (monthAt leap y) (y - daysBefore leap (monthAt leap y) + 1)
+pub month-right : (leap : Bool) (y : ℕ) → y < yearDays leap → IsMonthDay leap y (monthAt leap y) (y - daysBefore leap (monthAt leap y) + 1)
 unfolding tests
 month-right leap y h =
     let t = facts (tests leap y) (at 0 (yearDays leap) (λ y. all (tests leap y)) (month-all leap) y (omega arith) (omega arith)) in

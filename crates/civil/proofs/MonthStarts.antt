@@ -11,7 +11,7 @@ use lib.Dec.{leb}
 use Rattle.laws.specs.Runs.{every}
 use Rattle.laws.proofs.Tests.{at}
 use Rattle.civil.specs.Calendar.{monthDays, daysBefore, yearDays}
-use Rattle.civil.specs.Steps.{InMonth}
+use Rattle.civil.specs.Steps.{IsMonthDay}
 
 pub january : (leap : Bool) → daysBefore leap 1 ≡ 0
 unfolding daysBefore monthDays
@@ -51,7 +51,7 @@ months-rise leap a (suc b) p =
 
 -- A day of the year has one month and day.
 pub one-month :
-    (leap : Bool) (y m d n e : ℕ) → InMonth leap y m d → InMonth leap y n e → (m ≡ n) × (d ≡ e)
+    (leap : Bool) (y m d n e : ℕ) → IsMonthDay leap y m d → IsMonthDay leap y n e → (m ≡ n) × (d ≡ e)
 one-month leap y m d n e p q =
     let same : m ≡ n =
     by-cases (decLt m n)

@@ -7,9 +7,9 @@ use Prim.Native.Nat.{ℕ, _+_, _-_, _*_, _/_, _≤_}
 use native.Mathlib.Omega.{arith}
 use lib.IntN.{ℤ, pos, negsuc}
 use Rattle.days.specs.Range.{firstDay, lastDay, outOfRange}
-use Rattle.civil.specs.Calendar.{julian, gregorian, julianLeap, gregorianLeap, monthDays, daysBefore, firstYear, lastYear, divisible, dayOf}
+use Rattle.civil.specs.Calendar.{julian, gregorian, julianLeap, gregorianLeap, monthDays, daysBefore, firstRaised, lastRaised, divisible, dayOf}
 use Rattle.civil.specs.Date.{Date, dateOf}
-use Rattle.civil.specs.Good.{day, Good, OneDate}
+use Rattle.civil.specs.Good.{day, GoodCivilDate, OneDate}
 use Rattle.civil.specs.Answers.{civilDay, civilDate}
 use Rattle.civil.proofs.Years.{fourth}
 use Rattle.civil.proofs.Dates.{only-date, one-date, comes-back}
@@ -23,10 +23,10 @@ julian-one-date = one-date julian julian-covers
 pub gregorian-one-date : (j : ℕ) → firstDay ≤ j → j ≤ lastDay → OneDate gregorian j
 gregorian-one-date = one-date gregorian gregorian-covers
 
-pub julian-comes-back : (x : Date) → Good julian x → firstDay ≤ day julian x → dateOf julian (day julian x) ≡ x
+pub julian-comes-back : (x : Date) → GoodCivilDate julian x → firstDay ≤ day julian x → dateOf julian (day julian x) ≡ x
 julian-comes-back = comes-back julian julian-covers
 
-pub gregorian-comes-back : (x : Date) → Good gregorian x → firstDay ≤ day gregorian x → dateOf gregorian (day gregorian x) ≡ x
+pub gregorian-comes-back : (x : Date) → GoodCivilDate gregorian x → firstDay ≤ day gregorian x → dateOf gregorian (day gregorian x) ≡ x
 gregorian-comes-back = comes-back gregorian gregorian-covers
 
 -- The same of the public answers, with signed years: a day in range comes back from its date, and a date that is
@@ -54,29 +54,29 @@ gregorian-back-and-there = back-and-there gregorian gregorian-covers
 abbrev pub date : ℕ → ℕ → ℕ → Date
 date s m d = record { year = s; month = m; day = d }
 
-pub julian-first-date : dateOf julian firstDay ≡ date firstYear 10 7
+pub julian-first-date : dateOf julian firstDay ≡ date firstRaised 10 7
 unfolding monthDays daysBefore julianLeap
 julian-first-date =
-    sym (only-date julian julian-covers firstDay (omega arith) (date firstYear 10 7) (omega arith) (julian-day 0 10 7))
+    sym (only-date julian julian-covers firstDay (omega arith) (date firstRaised 10 7) (omega arith) (julian-day 0 10 7))
 
-pub julian-last-date : dateOf julian lastDay ≡ date lastYear 8 11
+pub julian-last-date : dateOf julian lastDay ≡ date lastRaised 8 11
 unfolding monthDays daysBefore julianLeap
 julian-last-date =
-    sym (only-date julian julian-covers lastDay (omega arith) (date lastYear 8 11) (omega arith) (julian-day 9999 8 11))
+    sym (only-date julian julian-covers lastDay (omega arith) (date lastRaised 8 11) (omega arith) (julian-day 9999 8 11))
 
-pub gregorian-first-date : dateOf gregorian firstDay ≡ date firstYear 9 7
+pub gregorian-first-date : dateOf gregorian firstDay ≡ date firstRaised 9 7
 unfolding monthDays daysBefore gregorianLeap
 gregorian-first-date =
     sym
-    (only-date gregorian gregorian-covers firstDay (omega arith) (date firstYear 9 7) (omega arith)
-    (omega (arith, gregorian-day firstYear 9 7 (omega arith))))
+    (only-date gregorian gregorian-covers firstDay (omega arith) (date firstRaised 9 7) (omega arith)
+    (omega (arith, gregorian-day firstRaised 9 7 (omega arith))))
 
-pub gregorian-last-date : dateOf gregorian lastDay ≡ date lastYear 9 25
+pub gregorian-last-date : dateOf gregorian lastDay ≡ date lastRaised 9 25
 unfolding monthDays daysBefore gregorianLeap
 gregorian-last-date =
     sym
-    (only-date gregorian gregorian-covers lastDay (omega arith) (date lastYear 9 25) (omega arith)
-    (omega (arith, gregorian-day lastYear 9 25 (omega arith))))
+    (only-date gregorian gregorian-covers lastDay (omega arith) (date lastRaised 9 25) (omega arith)
+    (omega (arith, gregorian-day lastRaised 9 25 (omega arith))))
 
 -- The same with signed years, as they are answered: −3760 is `negsuc 3759`.
 pub julian-first-answer : civilDate julian firstDay ≡ record { refusal = 0; year = negsuc 3759; month = 10; day = 7 }
@@ -104,6 +104,6 @@ august-start false = refl
 pub august : (h d : ℕ) → 1 ≤ h → dayOf julian (h + 239) 8 d ≡ 347930 + 365 * (h - 1) + (h - 1) / 4 + d
 august h d l =
     let k = h - 1 in
-    let e : firstYear + k ≡ h + 239 = omega arith in
+    let e : firstRaised + k ≡ h + 239 = omega arith in
     let t = rw e at (julian-day k 8 d) in
     omega (arith, august-start (divisible 4 k), fourth k)

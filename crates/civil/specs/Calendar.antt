@@ -32,11 +32,11 @@ abbrev pub gregorian : Calendar
 gregorian = record { leap = gregorianLeap; month = 9; day = 7 }
 
 -- The raised years of −3760 and 6239, the first and the last year covered.
-abbrev pub firstYear : ℕ
-firstYear = 240
+abbrev pub firstRaised : ℕ
+firstRaised = 240
 
-abbrev pub lastYear : ℕ
-lastYear = 10239
+abbrev pub lastRaised : ℕ
+lastRaised = 10239
 
 -- The days of a month, 1 January to 12 December. There is no month 0 and none after 12.
 unfoldable pub monthDays : Bool → ℕ → ℕ
@@ -57,12 +57,12 @@ yearDays leap = daysBefore leap 13
 -- The days of the k years from −3760 on.
 unfoldable pub yearsDays : (ℕ → Bool) → ℕ → ℕ
 yearsDays leap zero = 0
-yearsDays leap (suc k) = yearsDays leap k + yearDays (leap (firstYear + k))
+yearsDays leap (suc k) = yearsDays leap k + yearDays (leap (firstRaised + k))
 
 -- The days from 1 January −3760 to a date, that date with them.
 unfoldable pub daysTo : Calendar → ℕ → ℕ → ℕ → ℕ
-daysTo cal s m d = yearsDays (cal .leap) (s - firstYear) + daysBefore (cal .leap s) m + d
+daysTo cal s m d = yearsDays (cal .leap) (s - firstRaised) + daysBefore (cal .leap s) m + d
 
 -- The day number of a date: as many days after the first day as the date comes after the first day's date.
 unfoldable pub dayOf : Calendar → ℕ → ℕ → ℕ → ℕ
-dayOf cal s m d = firstDay + daysTo cal s m d - daysTo cal firstYear (cal .month) (cal .day)
+dayOf cal s m d = firstDay + daysTo cal s m d - daysTo cal firstRaised (cal .month) (cal .day)

@@ -3,7 +3,7 @@ use mathlib.Core.Bool.{Bool, cond}
 use Prim.Native.Nat.{ℕ, zero, suc, _+_, _-_}
 use lib.Dec.{ltb}
 use Rattle.days.specs.Range.{firstDay}
-use Rattle.civil.specs.Calendar.{Calendar, monthDays, firstYear}
+use Rattle.civil.specs.Calendar.{Calendar, monthDays, firstRaised}
 
 -- The year is a raised year.
 pub record Date : Type 0 where
@@ -22,7 +22,7 @@ tomorrow leap x =
 
 -- The date n days after the first day's.
 unfoldable pub daysOn : Calendar → ℕ → Date
-daysOn cal zero = record { year = firstYear; month = cal .month; day = cal .day }
+daysOn cal zero = record { year = firstRaised; month = cal .month; day = cal .day }
 daysOn cal (suc n) = tomorrow (cal .leap) (daysOn cal n)
 
 unfoldable pub dateOf : Calendar → ℕ → Date

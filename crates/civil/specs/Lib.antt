@@ -2,5 +2,6 @@ pub mod Signed
 pub mod Calendar
 pub mod Date
 pub mod Good
-pub mod Steps
 pub mod Answers
+pub mod Promises
+pub mod Steps

@@ -5,11 +5,20 @@ use mathlib.Core.Path.{_≡_}
 use mathlib.Core.Bool.{Bool, _&&_, cond}
 use Prim.Native.Nat.{ℕ, _+_, _-_}
 use lib.IntN.{ℤ, pos, negsuc, subℕ, _*ℤ_}
-use lib.Signed.{leZ}
+use lib.Signed.{leZ, _≤ℤ_}
 
 -- `negsuc n` is −1 − n.
+abbrev pub firstCivilYear : ℤ
+firstCivilYear = negsuc 3759
+
+abbrev pub lastCivilYear : ℤ
+lastCivilYear = pos 6239
+
+abbrev pub InCivilYears : ℤ → Type 0
+InCivilYears y = (firstCivilYear ≤ℤ y) × (y ≤ℤ lastCivilYear)
+
 abbrev pub covered : ℤ → Bool
-covered y = leZ (negsuc 3759) y && leZ y (pos 6239)
+covered y = leZ firstCivilYear y && leZ y lastCivilYear
 
 -- year + 4,000, for a year from −4,000 on.
 abbrev pub raised : ℤ → ℕ
@@ -27,3 +36,11 @@ lowered s = subℕ s 4000
 pub record Divides (k : ℕ) (y : ℤ) : Type 0 where
   pub times : ℤ
   pub product : pos k *ℤ times ≡ y
+
+-- Julian years divisible by 4 are leap.
+abbrev pub JulianLeapYear : ℤ → Type 0
+JulianLeapYear y = Divides 4 y
+
+-- Gregorian ones too, unless divisible by 100 and not by 400.
+abbrev pub GregorianLeapYear : ℤ → Type 0
+GregorianLeapYear y = Divides 4 y × (¬ (Divides 100 y × (¬ Divides 400 y)))

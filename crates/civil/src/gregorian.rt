@@ -7,22 +7,22 @@ use crate::CivilDay;
 use crate::Year;
 use crate::YearDay;
 use crate::signed::raised;
-use crate::steps::date_in;
-use crate::steps::day_in;
-use crate::steps::no_date;
+use crate::to_date::date_in;
+use crate::to_date::no_date;
+use crate::to_day::day_in;
 use laws::pick;
 ghost use mathlib.Core.Path.{_≡_};
 ghost use Prim.Native.Nat.{_≤_};
-ghost use Rattle.days.specs.Range.{firstDay, lastDay};
-ghost use Rattle.civil.specs.Calendar.{gregorian};
+ghost use Rattle.days.specs.Range.{InRange};
+ghost use Rattle.civil.specs.Calendar.{gregorian, lastRaised};
 ghost use Rattle.civil.specs.Answers.{civilDay, civilDate};
-ghost use Rattle.civil.specs.Steps.{IsYear, InYear};
+ghost use Rattle.civil.specs.Steps.{IsYear, IsYearDay};
 
 // 1 January −4000, raised year 0.
 const NEW_YEAR: u64 = 260_090;
 
 fn year(number: u64) -> Year
-    requires { ⌜ number ≤ 10239 ⌝ }
+    requires { ⌜ number ≤ lastRaised ⌝ }
     ensures { λ r. ⌜ IsYear gregorian number r ⌝ }
 {
     let centuries = (number + 99) / 100;
@@ -36,8 +36,8 @@ fn year(number: u64) -> Year
 
 // A step, for days in range.
 fn year_of(day: u64) -> YearDay
-    requires { ⌜ (firstDay ≤ day) × (day ≤ lastDay) ⌝ }
-    ensures { λ r. ⌜ InYear gregorian day r ⌝ }
+    requires { ⌜ InRange day ⌝ }
+    ensures { λ r. ⌜ IsYearDay gregorian day r ⌝ }
 {
     let century_quarters = 4 * (day - NEW_YEAR);
     let century = century_quarters / 146097;

@@ -5,15 +5,15 @@ use crate::CivilDay;
 use crate::Year;
 use crate::YearDay;
 use crate::signed::raised;
-use crate::steps::date_in;
-use crate::steps::day_in;
-use crate::steps::no_date;
+use crate::to_date::date_in;
+use crate::to_date::no_date;
+use crate::to_day::day_in;
 ghost use mathlib.Core.Path.{_≡_};
 ghost use Prim.Native.Nat.{_≤_};
-ghost use Rattle.days.specs.Range.{firstDay, lastDay};
-ghost use Rattle.civil.specs.Calendar.{julian};
+ghost use Rattle.days.specs.Range.{InRange};
+ghost use Rattle.civil.specs.Calendar.{julian, lastRaised};
 ghost use Rattle.civil.specs.Answers.{civilDay, civilDate};
-ghost use Rattle.civil.specs.Steps.{IsYear, InYear};
+ghost use Rattle.civil.specs.Steps.{IsYear, IsYearDay};
 
 // 1 January −3760, raised year 240.
 const NEW_YEAR: u64 = 347_718;
@@ -21,7 +21,7 @@ const NEW_YEAR: u64 = 347_718;
 const EVE: u64 = 260_057;
 
 fn year(number: u64) -> Year
-    requires { ⌜ number ≤ 10239 ⌝ }
+    requires { ⌜ number ≤ lastRaised ⌝ }
     ensures { λ r. ⌜ IsYear julian number r ⌝ }
 {
     Year {
@@ -33,8 +33,8 @@ fn year(number: u64) -> Year
 
 // A step, for days in range.
 fn year_of(day: u64) -> YearDay
-    requires { ⌜ (firstDay ≤ day) × (day ≤ lastDay) ⌝ }
-    ensures { λ r. ⌜ InYear julian day r ⌝ }
+    requires { ⌜ InRange day ⌝ }
+    ensures { λ r. ⌜ IsYearDay julian day r ⌝ }
 {
     let quarters = 4 * (day - NEW_YEAR);
     let years = quarters / 1461;

@@ -10,7 +10,8 @@ mod gregorian;
 mod julian;
 mod months;
 mod signed;
-mod steps;
+mod to_date;
+mod to_day;
 
 pub use gregorian::day_to_gregorian;
 pub use gregorian::gregorian_to_day;

@@ -4,7 +4,7 @@ use laws::pick;
 ghost use mathlib.Core.Path.{_≡_};
 ghost use Prim.Native.Nat.{_≤_, _<_};
 ghost use Rattle.civil.specs.Calendar.{daysBefore, yearDays};
-ghost use Rattle.civil.specs.Steps.{InMonth};
+ghost use Rattle.civil.specs.Steps.{IsMonthDay};
 
 // The days of the year before each month, and in the whole year.
 const COMMON: [u64; 13] = [0, 31, 59, 90, 120, 151, 181, 212, 243, 273, 304, 334, 365];
@@ -24,7 +24,7 @@ pub fn days_before(leap: bool, month: u64) -> u64
 // it is at most one short of it.
 pub fn month_of(leap: bool, day: u64) -> MonthDay
     requires { ⌜ day < yearDays leap ⌝ }
-    ensures { λ r. ⌜ InMonth leap day (r .month) (r .day) ⌝ }
+    ensures { λ r. ⌜ IsMonthDay leap day (r .month) (r .day) ⌝ }
 {
     let guess = day / 32 + 1;
     let month = pick(days_before(leap, guess + 1) <= day, guess + 1, guess);

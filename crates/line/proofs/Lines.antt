@@ -1,18 +1,18 @@
 -- Lines and figures: the first line as a part of the input, one more figure, and how large a number figures make.
 use mathlib.Core.Path.{_≡_, refl, sym, ap, _∙_}
-use mathlib.Core.Bool.{Bool, true, false, not, cond}
+use mathlib.Core.Bool.{Bool, true, false, cond}
 use mathlib.Core.List.{List, [], _∷_, _++_}
 use Prim.Native.Nat.{ℕ, zero, suc, _+_, _*_, _-_, _^_, _≤_, _<_}
 use native.Mathlib.Nat.{mul-assoc, pow-suc, pow-le-pow-right}
 use native.Mathlib.Numerals.{add-one}
 use native.Mathlib.Omega.{arith}
-use borrow.Author.Tests.{not-true}
+use borrow.Author.Tests.{not-true, le-ltb}
 use lib.Dec.{eqb, lit<}
-use lib.ListN.{length, take, getD, length-append}
+use lib.ListN.{length, take, length-append}
 use Rattle.bytes.specs.Bytes.{indexOf, indexAfter}
-use Rattle.laws.specs.Runs.{outside, eachOf}
+use Rattle.laws.specs.Runs.{eachOf}
 use Rattle.laws.proofs.Tests.{within, and-left, and-right}
-use Rattle.line.specs.Line.{firstLine, figure, decimal}
+use Rattle.line.specs.Line.{firstLine, figure, AllFigures, decimal}
 
 -- The first line ends where the first line feed stands.
 taken : (b : Bool) (byte : ℕ) (n : ℕ) (rest line : List ℕ) → take n rest ≡ line → take (indexAfter b n) (byte ∷ rest) ≡ cond b [] (byte ∷ line)
@@ -25,12 +25,19 @@ unfolding indexOf firstLine
 to-line-feed [] = refl
 to-line-feed (byte ∷ rest) = taken (eqb byte 10) byte (indexOf 10 rest) rest (firstLine rest) (to-line-feed rest)
 
--- Each byte of a line of figures is a figure.
-pub figure-at : (l : List ℕ) → eachOf l figure ≡ true → (i : ℕ) → i < length l → (48 ≤ getD l i 0) × (getD l i 0 ≤ 57)
+-- Each byte of a line of figures is a figure, and a line whose bytes all are is one of figures.
+pub figure-at : (l : List ℕ) → eachOf l figure ≡ true → AllFigures l
 unfolding eachOf
 figure-at [] e i h = absurd (omega arith)
 figure-at (x ∷ l) e zero h = within 48 57 x (not-true _ (and-left _ _ e))
 figure-at (x ∷ l) e (suc i) h = figure-at l (and-right (figure x) _ e) i (omega arith)
+
+pub all-figures : (l : List ℕ) → AllFigures l → eachOf l figure ≡ true
+unfolding eachOf
+all-figures [] f = refl
+all-figures (x ∷ l) f =
+    let this = f 0 (omega arith) in
+    rw (le-ltb x 48 (this .0), le-ltb 57 x (this .1)) (all-figures l (λ i h. f (suc i) (omega arith)))
 
 -- One figure more makes the number tenfold and adds what the figure stands for.
 pub decimal-more : (l : List ℕ) (byte : ℕ) → decimal (l ++ (byte ∷ [])) ≡ decimal l * 10 + (byte - 48)

@@ -1,9 +1,9 @@
 -- A line of input as bytes.
 use mathlib.Core.Bool.{Bool, not, cond}
 use mathlib.Core.List.{List, [], _∷_}
-use Prim.Native.Nat.{ℕ, _+_, _*_, _-_, _^_}
+use Prim.Native.Nat.{ℕ, _+_, _*_, _-_, _^_, _≤_, _<_}
 use lib.Dec.{eqb}
-use lib.ListN.{length}
+use lib.ListN.{length, getD}
 use Rattle.laws.specs.Runs.{outside}
 
 -- The first line: the bytes up to the first line feed, or all if there is none.
@@ -14,6 +14,10 @@ firstLine (byte ∷ rest) = cond (eqb byte 10) [] (byte ∷ firstLine rest)
 -- The figures 0 to 9 are the bytes 48 to 57.
 abbrev pub figure : ℕ → Bool
 figure byte = not (outside 48 57 byte)
+
+-- Every byte of the line is one.
+abbrev pub AllFigures : List ℕ → Type 0
+AllFigures line = (i : ℕ) → i < length line → (48 ≤ getD line i 0) × (getD line i 0 ≤ 57)
 
 -- The number that figures stand for: each counts ten times as much as it would one place further right.
 unfoldable pub decimal : List ℕ → ℕ

@@ -1,5 +1,7 @@
 // What the programs print with: words, numbers and line ends on standard output; and one number for many.
-ghost use Prim.Native.Nat.{_<_};
+ghost use mathlib.Core.Path.{_≡_};
+ghost use Prim.Native.Nat.{_+_, _*_, _%_};
+ghost use lib.IntN.{natAbs};
 use libc::STDOUT_FILENO;
 
 pub fn text(words: &[u8]) {
@@ -26,7 +28,9 @@ pub fn two_figures(n: u64) {
 }
 
 // How far a number is from 0. The least i64 has no positive twin: one is added first, and again at the end.
-pub fn magnitude(n: i64) -> u64 {
+pub fn magnitude(n: i64) -> u64
+    ensures { λ r. ⌜ r ≡ natAbs n ⌝ }
+{
     if 0 <= n {
         n as u64
     } else {
@@ -52,8 +56,7 @@ const PRIME: u64 = 1_000_000_007;
 
 // The numbers so far, as figures to the base 31, and one more.
 pub fn mixed(sum: u64, next: u64) -> u64
-    requires { ⌜ sum < 1000000007 ⌝ }
-    ensures { λ r. ⌜ r < 1000000007 ⌝ }
+    ensures { λ r. ⌜ r ≡ (sum % 1000000007 * 31 + next % 1000000007) % 1000000007 ⌝ }
 {
-    (sum * 31 + next % PRIME) % PRIME
+    (sum % PRIME * 31 + next % PRIME) % PRIME
 }

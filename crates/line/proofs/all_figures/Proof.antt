@@ -1,12 +1,13 @@
 -- What has been passed is figures, so all are exactly if what is left is.
 use borrow.Author.Needs.{needs}
 use mathlib.Core.Path.{_≡_, refl, _∙_}
+use mathlib.Core.Bool.{true, false}
 use Prim.Native.Nat.{_≤_, _<_, _-_}
 use native.Mathlib.Numerals.{add-one}
 use native.Mathlib.Omega.{arith}
-use lib.ListN.{length, drop}
+use lib.ListN.{length, drop, getD}
 use lib.Seq.{drop-cons, drop-length}
-use Rattle.laws.specs.Runs.{eachOf}
+use Rattle.laws.specs.Runs.{eachOf, outside}
 use Rattle.line.specs.Line.{figure}
 use Rattle.line.proofs.all_figures.Statement.{statement}
 use Rattle.line.proofs.all_figures.Tie as tie
@@ -26,7 +27,8 @@ returns c =
     let l = c .before .before .before .before in
     let s = l .before .args .line .now in
     let h : l .loop .i < length s = omega arith in
-    rw (l .loop .inv .1, drop-cons s (l .loop .i) 0, c .if1 .taken)
+    let none : outside 48 57 (getD s (l .loop .i) 0) ≡ true = c .if1 .taken in
+    rw (l .loop .inv .1, drop-cons s (l .loop .i) 0, none)
 
 loop-again : tie.Need-loop-again Inv-loop μ-loop
 unfolding eachOf
@@ -34,7 +36,8 @@ loop-again c =
     let l = c .before .before .before .before in
     let s = l .before .args .line .now in
     let h : l .loop .i < length s = omega arith in
-    (search needs, l .loop .inv .1 ∙ rw (drop-cons s (l .loop .i) 0, c .if1 .left, add-one))
+    let one : outside 48 57 (getD s (l .loop .i) 0) ≡ false = c .if1 .left in
+    (search needs, l .loop .inv .1 ∙ rw (drop-cons s (l .loop .i) 0, one, add-one))
 
 returns-2 : tie.Need-returns-2 Inv-loop μ-loop
 unfolding eachOf

@@ -2,6 +2,7 @@
 use borrow.Author.Needs.{needs}
 use borrow.Author.Tests.{not-false}
 use mathlib.Core.Path.{_≡_, sym, _∙_}
+use mathlib.Core.Bool.{true, false, not, _||_}
 use lib.ListN.{length, take}
 use lib.Seq.{length-take-le}
 use Rattle.laws.specs.Runs.{outside}
@@ -19,15 +20,20 @@ unfolding lineAnswer lineOf
 returns c =
     let f = c .before in
     let l = f .before .before in
-    rw (← l .line-length .ensures .1, whole l, ← f .all-figures .ensures, c .if1 .taken)
+    let none : outside 1 5 (l .line-length .result) || not (f .all-figures .result) ≡ true = c .if1 .taken in
+    rw (← l .line-length .ensures .1, whole l, ← f .all-figures .ensures, none)
+
+a-year : (c : tie.Else1) → outside 1 5 (c .before .before .before .line-length .result) || not (c .before .all-figures .result) ≡ false
+a-year c = c .if1 .left
 
 decimal-requires : tie.Need-decimal-requires
 decimal-requires c κs =
     let f = c .before in
     let l = f .before .before in
     let n = l .line-length .result in
-    let w = within 1 5 n (or-left _ _ (c .if1 .left)) in
-    (rw (whole l) (w .1), sym (f .all-figures .ensures) ∙ not-false _ (or-right (outside 1 5 n) _ (c .if1 .left)))
+    let one = a-year c in
+    let w = within 1 5 n (or-left _ _ one) in
+    (rw (whole l) (w .1), sym (f .all-figures .ensures) ∙ not-false _ (or-right (outside 1 5 n) _ one))
 
 returns-2 : tie.Need-returns-2
 unfolding lineAnswer lineOf
@@ -35,7 +41,7 @@ returns-2 c =
     let t = c .before in
     let f = t .before in
     let l = f .before .before in
-    rw (← l .line-length .ensures .1, whole l, ← f .all-figures .ensures, t .if1 .left, c .decimal .ensures)
+    rw (← l .line-length .ensures .1, whole l, ← f .all-figures .ensures, a-year t, c .decimal .ensures)
 
 pub year-on-line-spec : {M : Type 1} → statement M
 year-on-line-spec =

@@ -4,7 +4,7 @@ use Rattle.days.proofs.InRange.{in-range}
 use Rattle.civil.specs.Calendar.{gregorian}
 use Rattle.civil.specs.Answers.{civilDate}
 use Rattle.civil.proofs.GregorianYears.{gregorian-covers}
-use Rattle.civil.proofs.Answers.{date-answer}
+use Rattle.civil.proofs.Steps.{date-answer}
 use Rattle.civil.proofs.gregorian.day_to_gregorian.Statement.{statement}
 use Rattle.civil.proofs.gregorian.day_to_gregorian.Tie as tie
 

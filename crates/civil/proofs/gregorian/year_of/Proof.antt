@@ -1,5 +1,7 @@
 use borrow.Author.Needs.{needs}
-use Rattle.civil.proofs.GregorianYears.{gregorian-in-year, kept}
+use mathlib.Core.Bool.{not}
+use Rattle.civil.specs.Calendar.{divisible}
+use Rattle.civil.proofs.GregorianYears.{century, gregorian-in-year, kept}
 use Rattle.civil.proofs.gregorian.year_of.Statement.{statement}
 use Rattle.civil.proofs.gregorian.year_of.Tie as tie
 
@@ -15,7 +17,9 @@ year-of-spec =
     (search needs)
     (search needs)
     (search needs)
-    (λ c. rw (c .pick2 .ensures .0, c .before .pick .ensures .0) (kept (c .before .before .args .day)))
+    (λ c.
+    let j = c .before .before .args .day in
+    rw (c .pick2 .ensures .0, c .before .pick .ensures .0) (kept (not (divisible 4 (century j))) _))
     (λ c.
     let s = c .before .before in
     rw (c .pick2 .ensures .0, c .before .pick .ensures .0) (gregorian-in-year (s .args .day) (s .pre .0) (s .pre .1))))

@@ -4,7 +4,7 @@ use Rattle.days.proofs.InRange.{in-range}
 use Rattle.civil.specs.Calendar.{julian}
 use Rattle.civil.specs.Answers.{civilDate}
 use Rattle.civil.proofs.JulianYears.{julian-covers}
-use Rattle.civil.proofs.Answers.{date-answer}
+use Rattle.civil.proofs.Steps.{date-answer}
 use Rattle.civil.proofs.julian.day_to_julian.Statement.{statement}
 use Rattle.civil.proofs.julian.day_to_julian.Tie as tie
 

@@ -3,7 +3,7 @@ use mathlib.Core.Path.{_∙_}
 use mir.Facts.{toZ-ofZ}
 use Rattle.civil.specs.Calendar.{julian}
 use Rattle.civil.proofs.JulianYears.{julian-covers}
-use Rattle.civil.proofs.Answers.{day-answer}
+use Rattle.civil.proofs.Steps.{day-answer}
 use Rattle.civil.proofs.julian.julian_to_day.Statement.{statement}
 use Rattle.civil.proofs.julian.julian_to_day.Tie as tie
 

@@ -3,7 +3,7 @@ use mathlib.Core.Path.{_≡_}
 use Prim.Native.Nat.{_+_, _-_}
 use native.Mathlib.Omega.{arith}
 use Rattle.civil.specs.Calendar.{daysBefore}
-use Rattle.civil.specs.Steps.{InMonth}
+use Rattle.civil.specs.Steps.{IsMonthDay}
 use Rattle.civil.proofs.MonthStarts.{at-most}
 use Rattle.civil.proofs.MonthOf.{monthAt, month-right}
 use Rattle.civil.proofs.months.month_of.Statement.{statement}
@@ -13,7 +13,7 @@ found : (c : tie.After-pick) → let a = c .before .before .args in c .pick .res
 found c = rw (c .before .days-before .ensures .0) at (c .pick .ensures .0)
 
 right : (c : tie.After-pick) → let a = c .before .before .args in
-    InMonth (a .leap) (a .day) (c .pick .result) (a .day - daysBefore (a .leap) (c .pick .result) + 1)
+    IsMonthDay (a .leap) (a .day) (c .pick .result) (a .day - daysBefore (a .leap) (c .pick .result) + 1)
 right c = let s = c .before .before in rw (found c) (month-right (s .args .leap) (s .args .day) (s .pre))
 
 pub month-of-spec : {M : Type 1} → statement M

@@ -1,16 +1,11 @@
-// The steps that both calendars take, once the year's own arithmetic is done.
-use crate::CivilDate;
+// From a date to its day number: the steps that both calendars take, once the year's own arithmetic is done.
 use crate::CivilDay;
 use crate::Year;
-use crate::YearDay;
 use crate::months::days_before;
-use crate::months::month_of;
-use crate::signed::lowered;
 ghost use mathlib.Core.Path.{_≡_};
-ghost use Prim.Native.Nat.{_≤_, _<_};
-ghost use Rattle.civil.specs.Calendar.{yearDays};
-ghost use Rattle.civil.specs.Answers.{noDay, noDate};
-ghost use Rattle.civil.specs.Steps.{dayIn, DateIn};
+ghost use Prim.Native.Nat.{_≤_};
+ghost use Rattle.civil.specs.Answers.{noDay};
+ghost use Rattle.civil.specs.Steps.{dayIn};
 
 fn no_day(refusal: u64) -> CivilDay
     ensures { λ r. ⌜ r ≡ noDay refusal ⌝ }
@@ -41,31 +36,5 @@ pub fn day_in(year: Year, month: u64, day: u64) -> CivilDay
     CivilDay {
         refusal: 0,
         day: number,
-    }
-}
-
-// The date of a day of a year.
-pub fn date_in(at: YearDay) -> CivilDate
-    requires { ⌜ (at .year ≤ 10239) × (at .day < yearDays (at .leap)) ⌝ }
-    ensures { λ r. ⌜ DateIn at r ⌝ }
-{
-    let found = month_of(at.leap, at.day);
-    CivilDate {
-        refusal: 0,
-        year: lowered(at.year),
-        month: found.month,
-        day: found.day,
-    }
-}
-
-// Refusal 4.
-pub fn no_date() -> CivilDate
-    ensures { λ r. ⌜ r ≡ noDate ⌝ }
-{
-    CivilDate {
-        refusal: 4,
-        year: 0,
-        month: 0,
-        day: 0,
     }
 }

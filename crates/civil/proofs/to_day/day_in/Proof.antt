@@ -1,17 +1,28 @@
+-- Past the tests of year and month the month's length is a difference of two starts; each way rewrites with the tests
+-- that led there.
 use borrow.Author.Needs.{needs}
 use borrow.Author.Tests.{ne-eqb}
 use mathlib.Core.Path.{_≡_}
+use mathlib.Core.Bool.{false}
 use Prim.Native.Nat.{_-_, _≤_}
 use native.Mathlib.Omega.{arith}
+use lib.Dec.{eqb}
+use Rattle.laws.specs.Runs.{outside}
 use Rattle.laws.proofs.Tests.{within}
 use Rattle.civil.specs.Calendar.{monthDays}
 use Rattle.civil.specs.Steps.{dayIn}
 use Rattle.civil.proofs.MonthStarts.{next-month}
-use Rattle.civil.proofs.steps.day_in.Statement.{statement}
-use Rattle.civil.proofs.steps.day_in.Tie as tie
+use Rattle.civil.proofs.to_day.day_in.Statement.{statement}
+use Rattle.civil.proofs.to_day.day_in.Tie as tie
+
+a-year : (c : tie.Else2) → eqb (c .before .before .before .args .year .number) 0 ≡ false
+a-year c = ne-eqb _ _ (c .before .if1 .left)
+
+a-month : (c : tie.Else2) → outside 1 12 (c .before .before .before .args .month) ≡ false
+a-month c = c .if2 .left
 
 month : (c : tie.Else2) → let m = c .before .before .before .args .month in (1 ≤ m) × (m ≤ 12)
-month c = within 1 12 (c .before .before .before .args .month) (c .if2 .left)
+month c = within 1 12 (c .before .before .before .args .month) (a-month c)
 
 length : (c : tie.After-days-before2) → let a = c .before .before .before .before .before .args in
     c .days-before2 .result - c .before .days-before .result ≡ monthDays (a .year .leap) (a .month)
@@ -37,7 +48,7 @@ day-in-spec =
     let t = c .before in
     let b = t .before in
     let e = b .before .before in
-    rw (c .no-day3 .ensures, ne-eqb _ _ (e .before .if1 .left), e .if2 .left, ← length b, t .if3 .taken))
+    rw (c .no-day3 .ensures, a-year e, a-month e, ← length b, t .if3 .taken))
     (search needs)
     (λ c.
     let b = c .before .before in
@@ -54,8 +65,8 @@ day-in-spec =
     let e = b .before .before in
     rw (
       c .no-day4 .ensures,
-      ne-eqb _ _ (e .before .if1 .left),
-      e .if2 .left,
+      a-year e,
+      a-month e,
       ← length b,
       f .if3 .left,
       ← b .before .days-before .ensures .0,
@@ -68,8 +79,8 @@ day-in-spec =
     let b = f .before in
     let e = b .before .before in
     rw (
-      ne-eqb _ _ (e .before .if1 .left),
-      e .if2 .left,
+      a-year e,
+      a-month e,
       ← length b,
       f .if3 .left,
       ← b .before .days-before .ensures .0,

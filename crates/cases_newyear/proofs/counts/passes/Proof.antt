@@ -1,0 +1,15 @@
+use borrow.Author.Needs.{needs}
+use Rattle.cases_newyear.specs.Counts.{passes}
+use Rattle.cases_newyear.proofs.counts.passes.Statement.{statement}
+use Rattle.cases_newyear.proofs.counts.passes.Tie as tie
+
+pub passes-spec : {M : Type 1} → statement M
+unfolding passes
+passes-spec =
+    tie.close
+    (tie.spec
+    (search needs)
+    (search needs)
+    (search needs)
+    (search needs)
+    (λ c. let k = c .before .before .before .before in rw (c .before .kind2 .ensures, k .kind .ensures, k .before .before .ruled .ensures)))
