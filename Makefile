@@ -32,4 +32,4 @@ install: lib
 # make panel DATE=2014-09-27: the example panel on a Gregorian date.
 DATE ?= 2014-09-27
 panel:
-	@examples/run "$(DATE)"
+	@examples/run panel "$(DATE)"
