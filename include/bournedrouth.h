@@ -29,8 +29,8 @@
 #include <stdint.h>
 
 /*
- * Within a major version no call, struct, field, number or answer that stands here changes or goes; a minor version
- * adds. CHANGELOG.md has what each brought.
+ * Within a major version no call, struct, field, number or answer that stands here changes or goes, and a program that
+ * was built with an earlier minor version builds and is answered as it was. A minor version adds.
  */
 #define BD_VERSION_MAJOR 1
 #define BD_VERSION_MINOR 1

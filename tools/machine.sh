@@ -75,7 +75,7 @@ made() {
     shift 2
     fresh "$file" && return
     need_rt
-    echo "proving and building $what, once until a source changes: about two minutes on two cores" >&2
+    echo "proving and building $what, once until a source changes: one to two minutes on two cores" >&2
     mkdir -p target
     rt "$@" 2>&1 | follow $log || {
         cat $log >&2
