@@ -91,9 +91,14 @@ archive() {
     made "$ARCHIVE" "the library" staticlib panel
 }
 
-# run_program NAME: runs a program of the repository over the toolchain's own C library, as `rt` does.
-run_program() {
+# program NAME: a program of the repository.
+program() {
     made "target/bin/$1" "the program $1" check "$1"
+}
+
+# run_program NAME: runs it over the toolchain's own C library, as `rt` does.
+run_program() {
+    program "$1"
     need_rt
     run_here "$tools/lib/ld-linux-x86-64.so.2" --library-path "$tools/lib" "target/bin/$1"
 }
