@@ -14,9 +14,9 @@
  *   - The evening. No call is told the time, and the hall's sunset is the panel's own: before it ask for the number of
  *     the civil day, from sunset on for the day after, that number plus 1. A panel that changes the day at midnight is
  *     hours late, with putting the bank on the load and with taking it off.
- *   - A pointer must be real and aligned for uint64_t. Where the length given with it is 0 it may be NULL: that no entry
- *     is touched then is proved; that the archive asks no more of the pointer is seen in its code, and tested for every
- *     year.
+ *   - A pointer must be real and aligned for uint64_t. Where the length given with it is 0 it may be NULL: it is proved
+ *     that no entry is touched then, and seen in the archive's code and tested for every year that no more is asked of
+ *     the pointer.
  *   - A length must be true: at least so many numbers stand at the pointer, and nobody else uses them during the call.
  *   - Every number is passed as 64 bits. These declarations see to that. A number that was cut before it came here
  *     arrives as another number, and may be a good one.

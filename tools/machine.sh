@@ -81,7 +81,7 @@ made() {
         cat $log >&2
         fail "rt $*"
     }
-    [ -f "$file" ] || fail "rt $* left no $file"
+    [ -f "$file" ] || fail "rt $* left no $file; make clean has it begin from nothing"
     touch "$file"
 }
 
