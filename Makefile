@@ -1,35 +1,48 @@
-# make year YEAR=5762 prints a year; make test passes every proof and every test; make lib and make install are for C.
-.PHONY: year test lib install panel
+# make help lists what can be asked for; README.md has the rest.
+.PHONY: help year test panel lib install uninstall clean
 
-YEAR ?= 5762
+# The lines of README.md that begin with make.
+help:
+	@sed -n 's/^    \(make .*\)/\1/p' README.md
+
+# What is typed for YEAR, DATE, TIME and SUNSET is text. It goes to the programs by the environment, and neither make nor a
+# shell reads a command in it. Blanks around it are dropped: make itself drops those before it.
+define text
+ifneq ($$(origin $(1)),undefined)
+override $(1) := $$(strip $$(value $(1)))
+export $(1)
+endif
+endef
+$(foreach name,YEAR DATE TIME SUNSET,$(eval $(call text,$(name))))
+
+# Without a YEAR, the year that it is now.
 year:
-	@tools/year "$(YEAR)"
+	@tools/year $${YEAR+"$$YEAR"}
+
+# Without a DATE, today. CC names another compiler, for x86-64 Linux.
+panel:
+	@examples/run panel "$${DATE-today}" "$${TIME-}" "$${SUNSET-}"
 
 test:
 	bash .ci/run
 
-# The library for C, for x86-64: target/lib/libbournedrouth.a and target/include/bournedrouth.h.
-VERSION := 1.0
-SOURCES := crates.txt $(shell find crates -type f -not -path '*/must-fail/*')
+# target/lib/libbournedrouth.a, and the headers in target/include.
+lib:
+	@tools/lib
 
-lib: target/lib/libbournedrouth.a target/include/bournedrouth.h
+# The folders as GNU has them; PREFIX is another name for prefix. DESTDIR is put before each while installing.
+PREFIX ?= /usr/local
+prefix = $(PREFIX)
+libdir = $(prefix)/lib
+includedir = $(prefix)/include
+VERSION := $(shell sed -n 's/^\#define BD_VERSION "\(.*\)"/\1/p' include/bournedrouth.h)
+export prefix libdir includedir DESTDIR VERSION
 
-target/lib/libbournedrouth.a: $(SOURCES)
-	rt staticlib panel
-	install -D -m 644 target/staticlib/libpanel.a $@
-
-target/include/bournedrouth.h: include/bournedrouth.h
-	install -D -m 644 $< $@
-
-# make install PREFIX=folder: the archive, the header and a pkg-config file. DESTDIR is put before it while installing.
 install: lib
-	@test -n "$(PREFIX)" || { echo "make install PREFIX=folder" >&2; exit 2; }
-	install -D -m 644 target/lib/libbournedrouth.a "$(DESTDIR)$(abspath $(PREFIX))/lib/libbournedrouth.a"
-	install -D -m 644 include/bournedrouth.h "$(DESTDIR)$(abspath $(PREFIX))/include/bournedrouth.h"
-	install -d "$(DESTDIR)$(abspath $(PREFIX))/lib/pkgconfig"
-	sed -e 's|@PREFIX@|$(abspath $(PREFIX))|' -e 's|@VERSION@|$(VERSION)|' bournedrouth.pc.in >"$(DESTDIR)$(abspath $(PREFIX))/lib/pkgconfig/bournedrouth.pc"
+	@tools/install
 
-# make panel DATE=2014-09-27: the example panel on a Gregorian date.
-DATE ?= 2014-09-27
-panel:
-	@examples/run "$(DATE)"
+uninstall:
+	@tools/install --remove
+
+clean:
+	rm -rf target

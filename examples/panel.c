@@ -1,41 +1,33 @@
 /*
- * A battery room's panel, to start from: for a Gregorian date it shows the Hebrew date, whether the bank carries the
- * load, and the days left to the first day of the stretch of rest days.
+ * A battery room's panel, to start from: for a civil date, a time and the hall's sunset it shows the Hebrew day,
+ * whether the bank carries the load, and the days left to the first day of the stretch of rest days.
  *
- *     panel 2014-09-27
+ *     panel 2014-09-24 20:00 18:52
+ *     panel today
+ *
+ * A Hebrew day begins in the evening. The library knows no sunset, so the panel sees to it: before the hall's sunset it
+ * asks for the civil day, and from sunset on for the day after.
  *
  * The days left have a sign, and they decide: on the second and third day of a stretch they are -1 and -2, and the bank
- * stays on the load.
+ * stays on the load. A refusal decides nothing, and is never shown as a bank off the load.
  */
 #include <inttypes.h>
 #include <stdbool.h>
 #include <stdint.h>
 #include <stdio.h>
+#include <string.h>
+#include <time.h>
 
 #include <bournedrouth.h>
+#include <bournedrouth_names.h>
 
-static const char *const WEEKDAY[] = {"",         "Sunday",   "Monday", "Tuesday",
-                                      "Wednesday", "Thursday", "Friday", "Saturday"};
+/* Times of a day are in minutes after midnight. */
+enum { HOUR = 60, NOON = 12 * HOUR, USUAL_SUNSET = 18 * HOUR };
 
-static const char *const MONTH[] = {"",      "Tishri", "Marheshvan", "Kislev", "Tevet",  "Shevat", "Adar I",
-                                    "Adar",  "Nisan",  "Iyar",       "Sivan",  "Tammuz", "Av",     "Elul"};
-
-static const char *month_name(uint64_t month, uint64_t year_length)
-{
-    return month == BD_ADAR_II && year_length >= 383 ? "Adar II" : MONTH[month];
-}
-
-/* Why a date is refused. */
-static const char *reason(uint64_t refusal)
-{
-    switch (refusal) {
-    case BD_BAD_CIVIL_YEAR: return "the year is outside -3760..6239";
-    case BD_BAD_CIVIL_MONTH: return "there is no such month";
-    case BD_BAD_CIVIL_DAY: return "the month has no such day";
-    case BD_CIVIL_DATE_OUT_OF_RANGE: return "the day is before 1 Tishri 1 or after 29 Elul 9999";
-    default: return "the calendar refused it";
-    }
-}
+typedef struct {
+    int64_t year;
+    uint64_t month, date, time, sunset;
+} moment;
 
 /* Reads `least` to `most` figures and leaves *text behind them. */
 static bool figures(const char **text, int least, int most, uint64_t *number)
@@ -57,50 +49,107 @@ static bool mark(const char **text, char c)
     return true;
 }
 
-/* YYYY-MM-DD: a year of one to nine figures, with a minus sign where it is below zero; two figures each for the rest. */
-static bool read_date(const char *text, int64_t *year, uint64_t *month, uint64_t *day)
+/* YYYY-MM-DD: a year of one to nine figures, with a minus sign where it is below zero; two figures for each other. */
+static bool read_date(const char *text, moment *m)
 {
     bool below_zero = mark(&text, '-');
     uint64_t size;
     if (!figures(&text, 1, 9, &size) || !mark(&text, '-')) return false;
-    if (!figures(&text, 2, 2, month) || !mark(&text, '-')) return false;
-    if (!figures(&text, 2, 2, day) || *text != '\0') return false;
-    *year = below_zero ? -(int64_t)size : (int64_t)size;
+    if (!figures(&text, 2, 2, &m->month) || !mark(&text, '-')) return false;
+    if (!figures(&text, 2, 2, &m->date) || *text != '\0') return false;
+    m->year = below_zero ? -(int64_t)size : (int64_t)size;
     return true;
 }
 
-/* Shows a day that is in range. */
-static void show(uint64_t day)
+/* HH:MM, from 00:00 to 23:59. */
+static bool read_time(const char *text, uint64_t *time)
 {
-    bd_civil_date civil = bd_day_to_gregorian(day);
-    bd_hebrew_date hebrew = bd_day_to_hebrew(day);
-    bd_stretch_answer stretch = bd_stretch(day);
-    bool some = stretch.refusal == BD_DONE; /* the last days of the range have no stretch after them */
-    bool on_load = some && stretch.days_left <= 0;
+    uint64_t hour, minute;
+    if (!figures(&text, 2, 2, &hour) || !mark(&text, ':')) return false;
+    if (!figures(&text, 2, 2, &minute) || *text != '\0') return false;
+    *time = HOUR * hour + minute;
+    return hour < 24 && minute < 60;
+}
 
-    printf("%" PRId64 "-%02" PRIu64 "-%02" PRIu64 " %s\n", civil.year, civil.month, civil.day,
-           WEEKDAY[bd_weekday(day).weekday]);
-    printf("%" PRIu64 " %s %" PRIu64 "\n", hebrew.day, month_name(hebrew.month, hebrew.length), hebrew.year);
-    printf("bank %s the load\n", on_load ? "ON" : "off");
-    if (some)
-        printf("days left %" PRId64 "\n", stretch.days_left);
-    else
+/* The clock's date and time, where the machine stands. */
+static bool read_clock(moment *m)
+{
+    time_t seconds = time(NULL);
+    const struct tm *now = localtime(&seconds);
+    if (now == NULL) return false;
+    m->year = (int64_t)now->tm_year + 1900;
+    m->month = (uint64_t)now->tm_mon + 1;
+    m->date = (uint64_t)now->tm_mday;
+    m->time = (uint64_t)(HOUR * now->tm_hour + now->tm_min);
+    return true;
+}
+
+/*
+ * A date alone is its noon, and today alone is now; an empty word is as none. A sunset lies after noon: 06:30 for 18:30
+ * would have the bank off the load through the last day of every stretch.
+ */
+static bool read_moment(const char *date, const char *at, const char *sunset, moment *m)
+{
+    m->time = NOON;
+    m->sunset = USUAL_SUNSET;
+    if (strcmp(date, "today") == 0 ? !read_clock(m) : !read_date(date, m)) return false;
+    if (*at != '\0' && !read_time(at, &m->time)) return false;
+    return *sunset == '\0' || (read_time(sunset, &m->sunset) && m->sunset > NOON);
+}
+
+static bool since_sunset(const moment *m) { return m->time >= m->sunset; }
+
+static void show_clock(uint64_t time) { printf("%02" PRIu64 ":%02" PRIu64, time / HOUR, time % HOUR); }
+
+/* Shows a moment of a civil day, and the Hebrew day that it lies in; both are in range. */
+static void show_day(const moment *m, uint64_t civil, uint64_t day)
+{
+    bd_hebrew_date hebrew = bd_day_to_hebrew(day);
+
+    printf("%" PRId64 "-%02" PRIu64 "-%02" PRIu64 " %s ", m->year, m->month, m->date,
+           bd_weekday_name(bd_weekday(civil).weekday));
+    show_clock(m->time);
+    printf(", %s sunset (", since_sunset(m) ? "since" : "before");
+    show_clock(m->sunset);
+    printf(")\n%s, %" PRIu64 " %s %" PRIu64 "\n", bd_weekday_name(bd_weekday(day).weekday), hebrew.day,
+           bd_month_name(hebrew.month, hebrew.length), hebrew.year);
+}
+
+static int refused(const char *date, const char *when, uint64_t refusal)
+{
+    fprintf(stderr, "panel: %s%s: %s (refusal %" PRIu64 ")\n", date, when, bd_refusal_name(refusal), refusal);
+    return 1;
+}
+
+static int show(const char *date, const moment *m)
+{
+    bd_civil_day civil = bd_gregorian_to_day(m->year, m->month, m->date);
+    if (civil.refusal != BD_DONE) return refused(date, "", civil.refusal);
+
+    uint64_t day = since_sunset(m) ? civil.day + 1 : civil.day;
+    const char *when = since_sunset(m) ? " since sunset" : "";
+    bd_stretch_answer stretch = bd_stretch(day);
+    bool none = stretch.refusal == BD_NO_STRETCH; /* the last days of the range have no stretch after them */
+    if (stretch.refusal != BD_DONE && !none) return refused(date, when, stretch.refusal);
+
+    show_day(m, civil.day, day);
+    printf("bank %s the load\n", !none && stretch.days_left <= 0 ? "ON" : "off");
+    if (none)
         printf("days left --\n");
+    else
+        printf("days left %" PRId64 "\n", stretch.days_left);
+    return 0;
 }
 
 int main(int argc, char **argv)
 {
-    int64_t year;
-    uint64_t month, date;
-    if (argc != 2 || !read_date(argv[1], &year, &month, &date)) {
-        fprintf(stderr, "usage: panel YYYY-MM-DD (a Gregorian date, as 2014-09-27 or -3760-09-07)\n");
+    moment m;
+    const char *at = argc > 2 ? argv[2] : "", *sunset = argc > 3 ? argv[3] : "";
+    if (argc < 2 || argc > 4 || !read_moment(argv[1], at, sunset, &m)) {
+        fprintf(stderr, "usage: panel DATE [TIME [SUNSET]]\n"
+                        "DATE is a Gregorian date, as 2014-09-27 or -3760-09-07, or the word today;\n"
+                        "TIME and SUNSET are hours and minutes, as 18:52, and the sunset is after noon\n");
         return 2;
     }
-    bd_civil_day answer = bd_gregorian_to_day(year, month, date);
-    if (answer.refusal != BD_DONE) {
-        fprintf(stderr, "panel: %s: %s (refusal %" PRIu64 ")\n", argv[1], reason(answer.refusal), answer.refusal);
-        return 1;
-    }
-    show(answer.day);
-    return 0;
+    return show(argv[1], &m);
 }

@@ -6,24 +6,38 @@
  * entries are wanted. No call keeps anything, waits, allocates or stops the program; any number may be asked, and calls
  * may be made from several threads at once.
  *
- * A day is a Julian Day Number. A Hebrew day has the number of the civil day that holds its daylight; it begins at
- * 18:00 the evening before. Civil years are signed and there is a year 0: 3761 BCE is -3760. Both civil calendars are
- * carried back without a break.
+ * A day is a Julian Day Number. A Hebrew day has the number of the civil day that holds its daylight; it begins the
+ * evening before, for the calendar's arithmetic at 18:00. Civil years are signed and there is a year 0: 3761 BCE is
+ * -3760. Both civil calendars are carried back without a break.
  *
  * What a caller must still get right:
- *   - A pointer must be real, aligned for uint64_t and not NULL, also where the length given with it is 0.
+ *   - The evening. No call is told the time, and the hall's sunset is the panel's own: before it ask for the number of
+ *     the civil day, from sunset on for the day after, that number plus 1. A panel that changes the day at midnight is
+ *     hours late, with putting the bank on the load and with taking it off.
+ *   - A pointer must be real and aligned for uint64_t. Where the length given with it is 0 it may be NULL: it is proved
+ *     that no entry is touched then, and seen in the archive's code and tested for every year that no more is asked of
+ *     the pointer.
  *   - A length must be true: at least so many numbers stand at the pointer, and nobody else uses them during the call.
  *   - Every number is passed as 64 bits. These declarations see to that. A number that was cut before it came here
  *     arrives as another number, and may be a good one.
- *   - The refusal must be looked at before the rest.
+ *   - The refusal must be looked at before the rest. It is no answer: none but BD_NO_STRETCH says that the bank is off
+ *     the load.
  *
- * The archive is for x86-64 (System V calling convention).
+ * The archive is for x86-64 Linux (System V calling convention). English names are in bournedrouth_names.h.
  */
 #ifndef BOURNEDROUTH_H
 #define BOURNEDROUTH_H
 
 #include <stddef.h>
 #include <stdint.h>
+
+/*
+ * Within a major version no call, struct, field, number or answer that stands here changes or goes, and a program that
+ * was built with an earlier minor version builds and is answered as it was. A minor version adds.
+ */
+#define BD_VERSION_MAJOR 1
+#define BD_VERSION_MINOR 1
+#define BD_VERSION "1.1"
 
 #ifdef __cplusplus
 extern "C" {
@@ -58,7 +72,10 @@ enum bd_weekday_number {
     BD_SATURDAY = 7
 };
 
-/* The code of a Hebrew month. A common year has no code 6, and its Adar is code 7, as is the Adar II of a leap year. */
+/*
+ * The code of a Hebrew month. A common year has no code 6, and its Adar is code 7, as is the Adar II of a leap year:
+ * BD_ADAR and BD_ADAR_II are one number, and a switch has a case for one of them.
+ */
 enum bd_month_code {
     BD_TISHRI = 1,
     BD_MARHESHVAN = 2,
@@ -208,16 +225,27 @@ typedef struct bd_stretch_answer {
     int64_t days_left; /* first day minus the day asked: -2..6, and 0 or less on a day of the stretch */
 } bd_stretch_answer;
 
+/*
+ * What a list tells. The count has two units: how many rest days or stretches were written or, with
+ * BD_BUFFER_TOO_SHORT, how many entries of the buffer are wanted. NULL and 0 ask for the room:
+ *
+ *     bd_list_answer room = bd_stretches(5762, NULL, 0);    // BD_BUFFER_TOO_SHORT, and a count of 112 entries
+ *     uint64_t *out = malloc(room.count * sizeof *out);
+ *     bd_list_answer list = bd_stretches(5762, out, room.count);    // BD_DONE, and a count of 56 stretches
+ */
 typedef struct bd_list_answer {
     uint64_t refusal;
-    uint64_t count; /* how many were written; with BD_BUFFER_TOO_SHORT, how many entries are wanted */
+    uint64_t count;
 } bd_list_answer;
 
 /* Entries with room for the rest days of a year, and for the stretches of any year. */
 #define BD_REST_DAYS_ROOM 8
 #define BD_STRETCHES_ROOM 120
 
-/* The earliest stretch of rest days whose last day is the day asked or later. Refusals: 4, 9. */
+/*
+ * The earliest stretch of rest days whose last day is the day asked or later. From the hall's sunset on, ask for the
+ * day after. Refusals: 4, 9.
+ */
 bd_stretch_answer bd_stretch(uint64_t day);
 
 /*

@@ -1,25 +1,26 @@
 # shellcheck shell=bash disable=SC2034
-# Sourced. Archive and programs are for x86-64: what compiles C and C++ for it on this machine, and what runs it.
-# On x86-64 that is the plain compiler. On another processor it is Debian's cross compiler and the toolchain's emulator,
-# which stands where `rt` itself finds it.
+# Sourced. Archive and programs are for x86-64 Linux: what makes them, what compiles C and C++ for them on this machine,
+# and what runs them. On x86-64 that is the plain compiler. On another processor it is Debian's cross compiler and the
+# toolchain's emulator, which stands where `rt` itself finds it.
 
 fail() {
     echo "FAILED: $*" >&2
     exit 1
 }
 
-command -v rt >/dev/null || fail "the Rattle toolchain (rt) is not on the PATH"
-kit=${RATTLE_HOME:-$(dirname "$(dirname "$(readlink -f "$(command -v rt)")")")}
-tools=$kit/on/$(uname -m)/toolchain
-
 if [ "$(uname -m)" = x86_64 ]; then
-    CC=gcc CXX=g++ CC_PACKAGE=gcc CXX_PACKAGE=g++ LIBC_PACKAGE=libc6-dev LINK=() EMULATOR=()
+    EMULATED=no GCC=gcc GXX=g++ GCC_PACKAGE=gcc GXX_PACKAGE=g++ LIBC_PACKAGE=libc6-dev LINK=()
 else
     # a static program needs no x86-64 loader or C library on the machine that runs it
-    CC=x86_64-linux-gnu-gcc CXX=x86_64-linux-gnu-g++ CC_PACKAGE=gcc-x86-64-linux-gnu CXX_PACKAGE=g++-x86-64-linux-gnu
-    LIBC_PACKAGE=libc6-dev-amd64-cross LINK=(-static)
-    EMULATOR=("$tools/bin/qemu-x86_64")
+    EMULATED=yes GCC=x86_64-linux-gnu-gcc GXX=x86_64-linux-gnu-g++ GCC_PACKAGE=gcc-x86-64-linux-gnu
+    GXX_PACKAGE=g++-x86-64-linux-gnu LIBC_PACKAGE=libc6-dev-amd64-cross LINK=(-static)
 fi
+
+# need_rt: leaves the folder of the toolchain's loader, C library and emulator in `tools`.
+need_rt() {
+    command -v rt >/dev/null || fail "the Rattle toolchain (rt) is not on the PATH, and it proves and builds all that is run here"
+    tools=${RATTLE_HOME:-$(dirname "$(dirname "$(readlink -f "$(command -v rt)")")")}/on/$(uname -m)/toolchain
+}
 
 # need COMMAND PACKAGE: installs the package if the command is not there.
 need() {
@@ -30,8 +31,8 @@ need() {
 
 # The compiler, and the C library that a bare compiler package does not bring.
 need_c() {
-    need "$CC" "$CC_PACKAGE"
-    echo '#include <stdio.h>' | "$CC" -fsyntax-only -x c - 2>/dev/null || install_package "$LIBC_PACKAGE" "the C headers are missing"
+    need "$GCC" "$GCC_PACKAGE"
+    echo '#include <stdio.h>' | "$GCC" -fsyntax-only -x c - 2>/dev/null || install_package "$LIBC_PACKAGE" "the C headers are missing"
 }
 
 install_package() { # PACKAGE WHY
@@ -45,8 +46,13 @@ install_package() { # PACKAGE WHY
 
 # run_here PROGRAM [WORD...]
 run_here() {
-    if [ "${#EMULATOR[@]}" -gt 0 ] && [ ! -x "${EMULATOR[0]}" ]; then fail "the toolchain has no emulator for x86-64 programs here"; fi
-    "${EMULATOR[@]}" "$@"
+    if [ "$EMULATED" = no ]; then
+        "$@"
+    else
+        need_rt
+        [ -x "$tools/bin/qemu-x86_64" ] || fail "the toolchain has no emulator for x86-64 programs here"
+        "$tools/bin/qemu-x86_64" "$@"
+    fi
 }
 
 # fresh FILE: it stands, and no source is younger than it.
@@ -54,26 +60,45 @@ fresh() {
     [ -f "$1" ] && [ -z "$(find crates crates.txt -newer "$1" -not -path '*/must-fail*' -print -quit)" ]
 }
 
-# made FILE WORD...: leaves the file, made by `rt WORD...` if it is not fresh.
+# Keeps what rt says in a file, and passes its own lines on as they come: one for each crate that is proved.
+follow() { # FILE
+    local line
+    while IFS= read -r line; do
+        printf '%s\n' "$line" >&3
+        case $line in 'rt: '*) printf '%s\n' "$line" >&2 ;; esac
+    done 3>"$1"
+}
+
+# made FILE WHAT WORD...: leaves the file, made by `rt WORD...` if it is not fresh. All that it says is on standard error.
 made() {
-    local file=$1 log
-    shift
+    local file=$1 what=$2 log=target/made.log
+    shift 2
     fresh "$file" && return
+    need_rt
+    echo "proving and building $what, once until a source changes: one to two minutes on two cores" >&2
     mkdir -p target
-    log=target/made.log
-    rt "$@" >$log 2>&1 || { cat $log; fail "rt $*"; }
-    [ -f "$file" ] || fail "rt $* left no $file"
+    rt "$@" 2>&1 | follow $log || {
+        cat $log >&2
+        fail "rt $*"
+    }
+    [ -f "$file" ] || fail "rt $* left no $file; make clean has it begin from nothing"
     touch "$file"
 }
 
 # The archive of the C face.
 archive() {
     ARCHIVE=target/staticlib/libpanel.a
-    made "$ARCHIVE" staticlib panel
+    made "$ARCHIVE" "the library" staticlib panel
 }
 
-# run_program NAME: runs a program of the repository over the toolchain's own C library, as `rt` does.
+# program NAME: a program of the repository.
+program() {
+    made "target/bin/$1" "the program $1" check "$1"
+}
+
+# run_program NAME: runs it over the toolchain's own C library, as `rt` does.
 run_program() {
-    made "target/bin/$1" check "$1"
+    program "$1"
+    need_rt
     run_here "$tools/lib/ld-linux-x86-64.so.2" --library-path "$tools/lib" "target/bin/$1"
 }

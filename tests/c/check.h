@@ -20,8 +20,10 @@ void asking(const char *format, ...);
 /* Stops the program with a line that names the group, the question and the field unless both are the same number. */
 void same(const char *field, uint64_t got, uint64_t want);
 void same_signed(const char *field, int64_t got, int64_t want);
+void same_text(const char *field, const char *got, const char *want);
 
 void layout(void);
+void names(void);
 void civil_dates(void);
 void new_years(void);
 void hebrew_dates(void);

@@ -70,6 +70,12 @@ static size_t feast(const hebrew *h)
     return i;
 }
 
+/* Asked without a buffer, a list tells how many entries it wants. */
+static void wanted(bd_list_answer got, uint64_t entries)
+{
+    same("refusal without a buffer", got.refusal, BD_BUFFER_TOO_SHORT), same("entries wanted", got.count, entries);
+}
+
 /* Keeps a year's rest days as they come, and holds the year's list against them on its last day. */
 static void kept(uint64_t day, const hebrew *h)
 {
@@ -81,6 +87,7 @@ static void kept(uint64_t day, const hebrew *h)
     bd_list_answer got = bd_rest_days(h->year, out, COUNT(out));
     same("refusal of the rest days", got.refusal, 0), same("count", got.count, COUNT(TABLE));
     for (size_t i = 0; i < COUNT(TABLE); ++i) same("rest day", out[i], list[i]);
+    wanted(bd_rest_days(h->year, NULL, 0), COUNT(TABLE));
 }
 
 static void civil_day(uint64_t day, const civil *c)
@@ -125,6 +132,7 @@ static uint64_t year_lists(uint64_t year)
     bd_list_answer got = bd_stretches(year, out, BD_STRETCHES_ROOM);
     same("refusal", got.refusal, 0), same("count", got.count, n / 2);
     for (uint64_t i = 0; i < n; ++i) same("entry", out[i], list[i]);
+    wanted(bd_stretches(year, NULL, 0), n);
     return n;
 }
 

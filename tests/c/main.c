@@ -2,6 +2,7 @@
 #include <stdarg.h>
 #include <stdio.h>
 #include <stdlib.h>
+#include <string.h>
 
 #include "check.h"
 
@@ -46,9 +47,18 @@ void same_signed(const char *field, int64_t got, int64_t want)
     exit(1);
 }
 
+void same_text(const char *field, const char *got, const char *want)
+{
+    ++checks;
+    if (strcmp(got, want) == 0) return;
+    printf("FAILED: C calls: %s: %s: %s is '%s' and must be '%s'\n", group_name, question, field, got, want);
+    exit(1);
+}
+
 int main(void)
 {
     layout();
+    names();
     civil_dates();
     new_years();
     hebrew_dates();

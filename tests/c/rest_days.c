@@ -1,4 +1,6 @@
 /* Rest days and stretches, and the buffers that are lent for them. */
+#include <stdlib.h>
+
 #include "check.h"
 
 typedef struct {
@@ -43,6 +45,8 @@ static void stretch(uint64_t day, uint64_t refusal, const stretch_row *want)
     same_signed("days_left", got.days_left, want->days_left);
 }
 
+static const uint64_t BAD_YEARS[] = {0, 10000, (UINT64_C(1) << 32) + 5762, UINT64_MAX};
+
 typedef bd_list_answer lister(uint64_t year, uint64_t *out, size_t length);
 
 enum { AROUND = 4, ROOM = 200 };
@@ -67,16 +71,38 @@ static void lend(const char *call, lister *list, uint64_t year, size_t length, u
 /* A list into every length of buffer from none to more than enough, and for years that are refused. */
 static void every_length(const char *call, lister *list, uint64_t year, uint64_t count, const uint64_t *want, size_t entries)
 {
-    static const uint64_t bad_years[] = {0, 10000, (UINT64_C(1) << 32) + 5762, UINT64_MAX};
     for (size_t length = 0; length < entries; ++length)
         lend(call, list, year, length, BD_BUFFER_TOO_SHORT, entries, NULL, 0);
     lend(call, list, year, entries, BD_DONE, count, want, entries);
     lend(call, list, year, entries + 1, BD_DONE, count, want, entries);
     lend(call, list, year, ROOM, BD_DONE, count, want, entries);
-    for (size_t i = 0; i < COUNT(bad_years); ++i) {
-        lend(call, list, bad_years[i], ROOM, BD_BAD_YEAR, 0, NULL, 0);
-        lend(call, list, bad_years[i], 0, BD_BAD_YEAR, 0, NULL, 0);
+    for (size_t i = 0; i < COUNT(BAD_YEARS); ++i) {
+        lend(call, list, BAD_YEARS[i], ROOM, BD_BAD_YEAR, 0, NULL, 0);
+        lend(call, list, BAD_YEARS[i], 0, BD_BAD_YEAR, 0, NULL, 0);
     }
+}
+
+/* NULL and 0 ask for the room; the walk over every year asks so too. */
+static void no_buffer(const char *call, lister *list, uint64_t year, uint64_t refusal, uint64_t count)
+{
+    bd_list_answer got = list(year, NULL, 0);
+    asking("%s(%" PRIu64 ", NULL, 0)", call, year);
+    same("refusal", got.refusal, refusal), same("count", got.count, count);
+}
+
+/* The header's example: ask for the room, then for the list. */
+static void asked_for(void)
+{
+    bd_list_answer wanted = bd_stretches(5762, NULL, 0);
+    asking("bd_stretches(5762, NULL, 0)");
+    same("refusal", wanted.refusal, BD_BUFFER_TOO_SHORT), same("count", wanted.count, 112);
+    uint64_t *out = malloc(wanted.count * sizeof *out);
+    same("no memory", out == NULL, 0);
+    bd_list_answer list = bd_stretches(5762, out, wanted.count);
+    asking("bd_stretches(5762, out, 112)");
+    same("refusal", list.refusal, BD_DONE), same("count", list.count, 56);
+    for (size_t i = 0; i < COUNT(STRETCHES_5762); ++i) same("entry", out[i], STRETCHES_5762[i]);
+    free(out);
 }
 
 void rest_days(void)
@@ -92,5 +118,11 @@ void rest_days(void)
     every_length("bd_rest_days", bd_rest_days, 5762, 8, REST_5762, COUNT(REST_5762));
     every_length("bd_rest_days", bd_rest_days, 5775, 8, REST_5775, COUNT(REST_5775));
     every_length("bd_stretches", bd_stretches, 5762, COUNT(STRETCHES_5762) / 2, STRETCHES_5762, COUNT(STRETCHES_5762));
+    no_buffer("bd_rest_days", bd_rest_days, 5762, BD_BUFFER_TOO_SHORT, 8);
+    for (size_t i = 0; i < COUNT(BAD_YEARS); ++i) {
+        no_buffer("bd_rest_days", bd_rest_days, BAD_YEARS[i], BD_BAD_YEAR, 0);
+        no_buffer("bd_stretches", bd_stretches, BAD_YEARS[i], BD_BAD_YEAR, 0);
+    }
+    asked_for();
     end();
 }

@@ -1,0 +1,70 @@
+/* The version, and the English names, of numbers that have one and of numbers that have none. */
+#include "check.h"
+
+#include <bournedrouth_names.h>
+#include <stdio.h>
+
+/* Numbers beyond every table, and one whose low half is a good number. */
+static const uint64_t BEYOND[] = {14, 100, UINT64_C(1) << 32, (UINT64_C(1) << 32) + 1, UINT64_MAX - 1, UINT64_MAX};
+
+static void months(uint64_t year_length, const char *seventh)
+{
+    static const char *const want[] = {"?", "Tishri", "Marheshvan", "Kislev", "Tevet",  "Shevat", "Adar I",
+                                       "",  "Nisan",  "Iyar",       "Sivan",  "Tammuz", "Av",     "Elul"};
+    asking("the months of a year of %" PRIu64 " days", year_length);
+    for (uint64_t month = 0; month < COUNT(want); ++month)
+        same_text("name", bd_month_name(month, year_length), month == BD_ADAR ? seventh : want[month]);
+    for (size_t i = 0; i < COUNT(BEYOND); ++i) same_text("no name", bd_month_name(BEYOND[i], year_length), "?");
+}
+
+static void weekdays(void)
+{
+    static const char *const want[] = {"?",         "Sunday",   "Monday", "Tuesday",
+                                       "Wednesday", "Thursday", "Friday", "Saturday"};
+    asking("the weekdays");
+    for (uint64_t day = 0; day < COUNT(want); ++day) same_text("name", bd_weekday_name(day), want[day]);
+    same_text("no name", bd_weekday_name(8), "?");
+    for (size_t i = 0; i < COUNT(BEYOND); ++i) same_text("no name", bd_weekday_name(BEYOND[i]), "?");
+}
+
+/* Each refusal has a name of its own. */
+static void refusals(void)
+{
+    asking("the refusals");
+    same_text("name", bd_refusal_name(BD_DONE), "done");
+    same_text("name", bd_refusal_name(BD_BAD_YEAR), "the Hebrew year is outside 1 to 9999");
+    same_text("name", bd_refusal_name(BD_BUFFER_TOO_SHORT), "the buffer is too short for the list");
+    for (uint64_t a = BD_DONE; a <= BD_BUFFER_TOO_SHORT; ++a) {
+        same("length of a name above 1", bd_refusal_name(a)[0] != '\0' && bd_refusal_name(a)[1] != '\0', 1);
+        for (uint64_t b = BD_DONE; b < a; ++b) same("one name for two", bd_refusal_name(a) == bd_refusal_name(b), 0);
+    }
+    same_text("no name", bd_refusal_name(BD_BUFFER_TOO_SHORT + 1), "?");
+    for (size_t i = 0; i < COUNT(BEYOND); ++i) same_text("no name", bd_refusal_name(BEYOND[i]), "?");
+}
+
+/* A table of two names, asked by place. */
+static void places(void)
+{
+    static const char *const two[] = {"first", "second"};
+    asking("a table of two names");
+    same_text("at 0", bd_name_at(two, 2, 0), "first"), same_text("at 1", bd_name_at(two, 2, 1), "second");
+    same_text("at 2", bd_name_at(two, 2, 2), "?"), same_text("of none", bd_name_at(two, 0, 0), "?");
+}
+
+void names(void)
+{
+    static const uint64_t common[] = {0, 353, 354, 355}, leap[] = {383, 384, 385};
+    char version[40];
+    begin("the version and the names");
+    asking("BD_VERSION");
+    snprintf(version, sizeof version, "%d.%d", BD_VERSION_MAJOR, BD_VERSION_MINOR);
+    same_text("text", BD_VERSION, version);
+    asking("BD_ADAR");
+    same("number", BD_ADAR, BD_ADAR_II);
+    for (size_t i = 0; i < COUNT(common); ++i) months(common[i], "Adar");
+    for (size_t i = 0; i < COUNT(leap); ++i) months(leap[i], "Adar II");
+    weekdays();
+    refusals();
+    places();
+    end();
+}
