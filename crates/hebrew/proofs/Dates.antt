@@ -5,17 +5,17 @@ use Prim.Native.Nat.{ℕ, _+_, _-_, _≤_, _<_}
 use native.Mathlib.Omega.{arith}
 use lib.Dec.{leb}
 use Rattle.days.specs.Range.{firstDay, lastDay, InRange}
-use Rattle.molad.specs.Years.{leap}
+use Rattle.molad.specs.Years.{lastYear, leap}
 use Rattle.molad.specs.Molad.{IsMonth}
-use Rattle.newyear.specs.NewYear.{newYear, yearLength, yearOf}
+use Rattle.newyear.specs.NewYear.{newYear, yearLength, yearOf, InYear}
 use Rattle.newyear.proofs.Lengths.{rises, length-in, length-leap}
-use Rattle.newyear.proofs.YearOf.{InYear, held, year-is, year-in-range}
+use Rattle.newyear.proofs.YearOf.{held, year-is, year-in-range}
 use Rattle.hebrew.specs.Months.{monthLength, daysBefore}
 use Rattle.hebrew.specs.Dates.{Date, GoodHebrewDate, dayNumber, monthOf, dateOf}
 use Rattle.hebrew.proofs.Placed.{InMonth, month-is, month-holds, months-whole, sums-rise}
 
 -- The months of a year add up to its length.
-pub months-add-up : (h : ℕ) → 1 ≤ h → h ≤ 9999 → daysBefore (yearLength h) 14 ≡ yearLength h
+pub months-add-up : (h : ℕ) → 1 ≤ h → h ≤ lastYear → daysBefore (yearLength h) 14 ≡ yearLength h
 months-add-up h l u = months-whole (yearLength h) (length-in h l (omega arith))
 
 -- A month that holds a day is a month of the year: a common year's code 6 has no days.

@@ -10,7 +10,7 @@ use Rattle.laws.proofs.Promises.{ranged, asks, answered}
 use Rattle.days.specs.Range.{firstDay, lastDay, InRange}
 use Rattle.molad.specs.Years.{lastYear, InYears, lastNewYear, InNewYears, outOfNewYears, leap, monthsIn}
 use Rattle.molad.specs.Molad.{moladDay, moladTime}
-use Rattle.newyear.specs.NewYear.{newYear, yearLength, yearOf}
+use Rattle.newyear.specs.NewYear.{newYear, yearLength, yearOf, InYear}
 use Rattle.newyear.specs.Answers.{noNewYear, newYearOn, newYearAnswer, yearAnswer, yearOfDayAnswer}
 use Rattle.newyear.specs.Spans.{Spans}
 use Rattle.newyear.specs.Steps.{IsDelay}
@@ -18,7 +18,7 @@ use Rattle.newyear.specs.declared.NewYearAnswer.{NewYearAnswer}
 use Rattle.newyear.specs.declared.YearAnswer.{YearAnswer}
 use Rattle.newyear.specs.declared.YearOfDayAnswer.{YearOfDayAnswer}
 use Rattle.newyear.specs.declared.span.Span.{Span}
-use Rattle.newyear.proofs.YearOf.{InYear, held}
+use Rattle.newyear.proofs.YearOf.{held}
 
 -- What the New Year of year h promises, by either route: its day j, and the molad's day and time t.
 abbrev pub NewYearPromised : ℕ → ℕ → ℕ → ℕ → NewYearAnswer → Type 0

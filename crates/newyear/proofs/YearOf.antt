@@ -10,17 +10,10 @@ use borrow.Author.Tests.{ltb-true, ltb-false}
 use Rattle.laws.proofs.Counted.{begun-is}
 use Rattle.days.specs.Range.{firstDay, lastDay, InRange}
 use Rattle.molad.specs.Years.{lastYear, lastNewYear}
-use Rattle.newyear.specs.NewYear.{newYear, yearOf}
+use Rattle.newyear.specs.NewYear.{newYear, yearOf, InYear}
 use Rattle.newyear.proofs.Quick.{quick, newYear-quick}
 use Rattle.newyear.proofs.Lengths.{near}
 use Rattle.newyear.proofs.Rise.{rise-le}
-
--- Day j lies in year h.
-pub record InYear (j h : ℕ) : Type 0 where
-  pub low : 1 ≤ h
-  pub high : h ≤ lastYear
-  pub from : newYear h ≤ j
-  pub before : j < newYear (h + 1)
 
 -- New Year 1 is the first day; New Year 10,000 is the day after the last.
 pub first : newYear 1 ≡ firstDay

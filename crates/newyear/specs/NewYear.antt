@@ -1,5 +1,5 @@
 -- New Year, the year's length, and the year that holds a day.
-use Prim.Native.Nat.{ℕ, _+_, _-_}
+use Prim.Native.Nat.{ℕ, _+_, _-_, _≤_, _<_}
 use Rattle.laws.specs.Begun.{begun}
 use Rattle.days.specs.Weekday.{weekday}
 use Rattle.molad.specs.Years.{lastYear, leap}
@@ -17,3 +17,10 @@ yearLength h = newYear (h + 1) - newYear h
 -- The year that holds day j: as many of the years covered have begun by then. New Years rise, so it is the last of them.
 unfoldable pub yearOf : ℕ → ℕ
 yearOf j = begun newYear lastYear j
+
+-- Day j lies in year h.
+pub record InYear (j h : ℕ) : Type 0 where
+  pub low : 1 ≤ h
+  pub high : h ≤ lastYear
+  pub from : newYear h ≤ j
+  pub before : j < newYear (h + 1)

@@ -14,9 +14,10 @@ use Rattle.laws.proofs.Tests.{and-left, and-right, each-at}
 use Rattle.laws.proofs.Promises.{ranged, let-pass}
 use Rattle.days.specs.Range.{firstDay, lastDay}
 use Rattle.days.specs.Weekday.{weekday}
-use Rattle.newyear.specs.NewYear.{yearLength, yearOf}
+use Rattle.molad.specs.Years.{lastYear}
+use Rattle.newyear.specs.NewYear.{yearLength, yearOf, InYear}
 use Rattle.newyear.proofs.Lengths.{length-in, length-leap}
-use Rattle.newyear.proofs.YearOf.{InYear, year-is, year-in-range}
+use Rattle.newyear.proofs.YearOf.{year-is, year-in-range}
 use Rattle.hebrew.specs.Months.{monthLength}
 use Rattle.hebrew.specs.Dates.{Date, GoodHebrewDate, dayNumber, dateOf}
 use Rattle.hebrew.proofs.Placed.{month-short}
@@ -32,7 +33,7 @@ dated-in : (j h : ℕ) → InYear j h → dateOf j .year ≡ h
 unfolding dateOf
 dated-in j h i = year-is j h i
 
-module _ (h : ℕ) (l : 1 ≤ h) (u : h ≤ 9999) where
+module _ (h : ℕ) (l : 1 ≤ h) (u : h ≤ lastYear) where
   abbrev len : ℕ
   len = yearLength h
 

@@ -13,10 +13,11 @@ use Rattle.laws.proofs.Tests.{at, of, and-left, and-right, beq-true, clash, wit
 use Rattle.laws.proofs.Promises.{ranged, let-pass}
 use Rattle.days.specs.Range.{firstDay, lastDay, InRange, outOfRange}
 use Rattle.days.specs.Weekday.{weekday}
-use Rattle.newyear.specs.NewYear.{newYear, yearLength, yearOf}
+use Rattle.molad.specs.Years.{lastYear, lastNewYear}
+use Rattle.newyear.specs.NewYear.{newYear, yearLength, yearOf, InYear}
 use Rattle.newyear.specs.Kinds.{IsLength, kinds, kindOf}
 use Rattle.newyear.proofs.Lengths.{rises, length-in, kind-in}
-use Rattle.newyear.proofs.YearOf.{InYear, held, year-is, year-in-range, first}
+use Rattle.newyear.proofs.YearOf.{held, year-is, year-in-range, first}
 use Rattle.hebrew.specs.Months.{monthLength, daysBefore}
 use Rattle.hebrew.specs.Dates.{dateOf, monthOf}
 use Rattle.hebrew.specs.Steps.{yearDate}
@@ -41,13 +42,13 @@ saturday j x =
     rw e (beq-true _ _ (at 0 7 saturdays saturdays-all r (omega arith) (omega arith)))
 
 -- A day of a year lies in that year.
-pub day-of-year : (h : ℕ) → 1 ≤ h → h ≤ 9999 → (x : ℕ) → x < yearLength h → InYear (newYear h + x) h
+pub day-of-year : (h : ℕ) → 1 ≤ h → h ≤ lastYear → (x : ℕ) → x < yearLength h → InYear (newYear h + x) h
 unfolding yearLength
 day-of-year h l u x d = let r = rises h l (omega arith) in record { low = l; high = u; from = omega arith; before = omega arith }
 
 module _ (table : List ℕ) where
   -- Rest days by day number are rest days by their date in the year.
-  pub rest-placed : (h : ℕ) → 1 ≤ h → h ≤ 9999 → (x : ℕ) → x < yearLength h → restDay table (newYear h + x) ≡ restAt table (weekday (newYear h)) (yearLength h) x
+  pub rest-placed : (h : ℕ) → 1 ≤ h → h ≤ lastYear → (x : ℕ) → x < yearLength h → restDay table (newYear h + x) ≡ restAt table (weekday (newYear h)) (yearLength h) x
   unfolding restDay isRest restAt dateOf yearDate
   rest-placed h l u x d =
       let z : newYear h + x - newYear h ≡ x = omega arith in
@@ -76,7 +77,7 @@ module _ (table : List ℕ) where
 
 module _ (table : List ℕ) (ok : passes table ≡ true) where
   -- What the check says of the kind of year h.
-  module _ (h : ℕ) (l : 1 ≤ h) (u : h ≤ 9999) where
+  module _ (h : ℕ) (l : 1 ≤ h) (u : h ≤ lastYear) where
     abbrev w : ℕ
     w = weekday (newYear h)
 
@@ -128,7 +129,7 @@ module _ (table : List ℕ) (ok : passes table ≡ true) where
     rests-at x j e d r = sym (rest-placed table h l u x d) ∙ rw e r
 
   -- The day before a New Year is no rest day: before the first the range has not begun, before another it is 29 Elul.
-  pub eve-works : (h : ℕ) → 1 ≤ h → h ≤ 10000 → restDay table (newYear h - 1) ≡ false
+  pub eve-works : (h : ℕ) → 1 ≤ h → h ≤ lastNewYear → restDay table (newYear h - 1) ≡ false
   unfolding restDay
   eve-works h l u =
       by-cases (ℕ-discrete h 1)
@@ -137,7 +138,7 @@ module _ (table : List ℕ) (ok : passes table ≡ true) where
       let s : h - 1 + 1 ≡ h = omega arith in
       rw s at (elul-works (h - 1) (omega arith) (omega arith)))
 
-  not-eve : (h j : ℕ) → 1 ≤ h → h ≤ 10000 → newYear h ≡ j + 1 → restDay table j ≡ true → ⊥
+  not-eve : (h j : ℕ) → 1 ≤ h → h ≤ lastNewYear → newYear h ≡ j + 1 → restDay table j ≡ true → ⊥
   not-eve h j l u e r =
       let s : newYear h - 1 ≡ j = omega arith in
       clash (restDay table j) r (rw s at (eve-works h l u))

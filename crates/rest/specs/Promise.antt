@@ -8,7 +8,7 @@ use lib.ListN.{length, getD}
 use Rattle.laws.specs.Runs.{elem}
 use Rattle.days.specs.Weekday.{weekday}
 use Rattle.hebrew.specs.Dates.{dateOf}
-use Rattle.newyear.proofs.YearOf.{InYear}
+use Rattle.newyear.specs.NewYear.{InYear}
 use Rattle.rest.specs.Table.{rowDate, inTable, restDay}
 
 pub record RestDaysOf (table : List ℕ) (h : ℕ) (list : List ℕ) : Type 0 where

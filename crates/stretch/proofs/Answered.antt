@@ -13,6 +13,7 @@ use Rattle.laws.proofs.Found.{start-tells}
 use Rattle.laws.proofs.Promises.{ranged, let-pass}
 use Rattle.days.specs.Range.{firstDay, lastDay}
 use Rattle.days.specs.Weekday.{weekday}
+use Rattle.molad.specs.Years.{lastYear}
 use Rattle.newyear.specs.NewYear.{newYear, yearLength}
 use Rattle.newyear.proofs.YearOf.{year-in-range, last}
 use Rattle.rest.specs.Table.{restDay}
@@ -25,7 +26,7 @@ use Rattle.stretch.specs.Answers.{noStretch, stretchOn, stretchAnswer}
 use Rattle.stretch.proofs.Year.{next-year, told, rests-there, next-is, start-same, end-same, start-later, end-later}
 
 -- The answer for day x of the year.
-module _ (table : List ℕ) (ok : passes table ≡ true) (h : ℕ) (l : 1 ≤ h) (u : h ≤ 9999) (x : ℕ) (d : x < yearLength h) where
+module _ (table : List ℕ) (ok : passes table ≡ true) (h : ℕ) (l : 1 ≤ h) (u : h ≤ lastYear) (x : ℕ) (d : x < yearLength h) where
   abbrev w : ℕ
   w = weekday (newYear h)
 

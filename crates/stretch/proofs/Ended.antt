@@ -12,6 +12,7 @@ use lib.Dec.{ltb}
 use Rattle.laws.specs.Search.{Run, runStart}
 use Rattle.laws.proofs.Found.{start-tells, run-start}
 use Rattle.days.specs.Weekday.{weekday}
+use Rattle.molad.specs.Years.{lastYear}
 use Rattle.newyear.specs.NewYear.{newYear, yearLength}
 use Rattle.newyear.proofs.Lengths.{length-in}
 use Rattle.rest.specs.Table.{restDay}
@@ -23,7 +24,7 @@ use Rattle.stretch.specs.Steps.{runBefore, rowsAt}
 use Rattle.stretch.proofs.Year.{placed}
 use Rattle.stretch.proofs.WholeList.{first-row}
 
-module _ (table : List ℕ) (ok : passes table ≡ true) (h : ℕ) (l : 1 ≤ h) (u : h ≤ 9999) where
+module _ (table : List ℕ) (ok : passes table ≡ true) (h : ℕ) (l : 1 ≤ h) (u : h ≤ lastYear) where
   abbrev rest : ℕ → Bool
   rest = restDay table
 

@@ -13,6 +13,7 @@ use Rattle.laws.proofs.Promises.{ranged, let-pass}
 use Rattle.laws.proofs.Found.{Seek, seek-tells, start-tells, run-begins, run-around}
 use Rattle.days.specs.Range.{firstDay, lastDay, InRange}
 use Rattle.days.specs.Weekday.{weekday}
+use Rattle.molad.specs.Years.{lastNewYear}
 use Rattle.newyear.specs.NewYear.{newYear}
 use Rattle.newyear.proofs.YearOf.{last}
 use Rattle.rest.specs.Table.{isRest, restDay}
@@ -50,7 +51,7 @@ module _ (table : List ℕ) (ok : passes table ≡ true) where
   )
 
   -- No stretch crosses a New Year: one that begins before it ends before it.
-  pub no-crossing : (f c h : ℕ) → Run rest f c → 1 ≤ h → h ≤ 10000 → f < newYear h → f + c ≤ newYear h
+  pub no-crossing : (f c h : ℕ) → Run rest f c → 1 ≤ h → h ≤ lastNewYear → f < newYear h → f + c ≤ newYear h
   no-crossing f c h r l u p =
       by-cases (decLt (newYear h) (f + c))
       (λ q. absurd (clash (rest (newYear h - 1)) (r .passes (newYear h - 1) (omega arith) (omega arith)) (eve-works table ok h l u)))

@@ -11,6 +11,7 @@ use lib.ListN.{length}
 use Rattle.laws.specs.Search.{Run, seekNot, runStart}
 use Rattle.laws.proofs.Tests.{and-left, and-right}
 use Rattle.laws.proofs.Found.{run-start, run-ends}
+use Rattle.molad.specs.Years.{lastYear}
 use Rattle.newyear.specs.NewYear.{newYear, yearLength}
 use Rattle.newyear.proofs.Lengths.{rises}
 use Rattle.rest.specs.Table.{restDay}
@@ -143,7 +144,7 @@ module _ (table : List ℕ) (ok : passes table ≡ true) where
           (rising-more j (j + k) c p (omega arith) (r .0) (r .1), below-more (j + k) (j + suc k) c p (omega arith) (r .1))
       go false c r = rw append-nil (r .0, below-later (j + k) (j + suc k) (in-pairs table ok j k) (omega arith) (r .1))
 
-  pub stretches-of : (h : ℕ) → 1 ≤ h → h ≤ 9999 → StretchesOf table h (stretchRows table h)
+  pub stretches-of : (h : ℕ) → 1 ≤ h → h ≤ lastYear → StretchesOf table h (stretchRows table h)
   unfolding stretchRows yearLength
   stretches-of h l u =
       let up = rises h l (omega arith) in

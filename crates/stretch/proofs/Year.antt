@@ -12,6 +12,7 @@ use Rattle.laws.proofs.Tests.{clash}
 use Rattle.laws.proofs.Found.{Seek, seek-tells, seek-is, seek-none, seek-not-is}
 use Rattle.days.specs.Range.{lastDay}
 use Rattle.days.specs.Weekday.{weekday}
+use Rattle.molad.specs.Years.{lastYear}
 use Rattle.newyear.specs.NewYear.{newYear, yearLength}
 use Rattle.newyear.proofs.Lengths.{rises, length-in}
 use Rattle.newyear.proofs.YearOf.{year-in-range, last}
@@ -27,7 +28,7 @@ shifted : (b : Bool) (a s k : ℕ) → cond b (a + s) (suc (a + k)) ≡ a + cond
 shifted true a s k = refl
 shifted false a s k = omega arith
 
-module _ (table : List ℕ) (ok : passes table ≡ true) (h : ℕ) (l : 1 ≤ h) (u : h ≤ 9999) where
+module _ (table : List ℕ) (ok : passes table ≡ true) (h : ℕ) (l : 1 ≤ h) (u : h ≤ lastYear) where
   abbrev rest : ℕ → Bool
   rest = restDay table
 
@@ -137,7 +138,7 @@ module _ (table : List ℕ) (ok : passes table ≡ true) (h : ℕ) (l : 1 ≤ h)
   low : 1 ≤ later
   low = omega arith
 
-  high : later ≤ 9999
+  high : later ≤ lastYear
   high = omega arith
 
   begun : 0 < yearLength later

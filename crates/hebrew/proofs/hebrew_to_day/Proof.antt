@@ -3,7 +3,7 @@ use mathlib.Core.Path.{_≡_, _∙_}
 use Prim.Native.Nat.{_≤_}
 use native.Mathlib.Omega.{arith}
 use Rattle.laws.proofs.Tests.{within}
-use Rattle.molad.specs.Years.{leap}
+use Rattle.molad.specs.Years.{lastYear, leap}
 use Rattle.molad.specs.Molad.{noMonth}
 use Rattle.hebrew.specs.Dates.{dayNumber}
 use Rattle.hebrew.specs.Answers.{hebrewDay}
@@ -34,7 +34,7 @@ hebrew-to-day-spec =
     tie.close
     (tie.spec
     (λ c. rw (c .if1 .taken))
-    (λ c κs. within 1 9999 (c .before .args .year) (c .if1 .left))
+    (λ c κs. within 1 lastYear (c .before .args .year) (c .if1 .left))
     (search needs)
     (λ c. rw (c .before .before .before .if1 .left, told (c .before), c .if2 .taken))
     (search needs)

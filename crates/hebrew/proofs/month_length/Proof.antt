@@ -2,7 +2,7 @@ use borrow.Author.Needs.{needs}
 use mathlib.Core.Path.{_≡_}
 use mathlib.Core.Bool.{false}
 use Rattle.laws.proofs.Tests.{within}
-use Rattle.molad.specs.Years.{leap}
+use Rattle.molad.specs.Years.{lastYear, leap}
 use Rattle.molad.specs.Molad.{noMonth}
 use Rattle.hebrew.specs.Answers.{monthAnswer}
 use Rattle.hebrew.proofs.Spanned.{month-told}
@@ -18,7 +18,7 @@ month-length-spec =
     tie.close
     (tie.spec
     (λ c. rw (c .if1 .taken))
-    (λ c κs. within 1 9999 (c .before .args .year) (c .if1 .left))
+    (λ c κs. within 1 lastYear (c .before .args .year) (c .if1 .left))
     (search needs)
     (λ c. rw (c .before .before .before .if1 .left, told (c .before), c .if2 .taken))
     (search needs)

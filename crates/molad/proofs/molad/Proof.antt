@@ -5,7 +5,7 @@ use mathlib.Core.Bool.{true, false, _||_, _&&_, not, cond}
 use Prim.Native.Nat.{ℕ, _+_, _-_, _≤_}
 use native.Mathlib.Omega.{arith}
 use Rattle.laws.proofs.Tests.{within, or-left}
-use Rattle.molad.specs.Years.{leap, monthsBefore}
+use Rattle.molad.specs.Years.{lastYear, leap, monthsBefore}
 use Rattle.molad.specs.Molad.{noMonth, monthsOfYearBefore, moladParts, moladDay, moladTime}
 use Rattle.molad.specs.Answers.{moladAnswer}
 use Rattle.molad.proofs.Closed.{months-of-year}
@@ -17,7 +17,7 @@ unfolding moladAnswer
 returns c = rw (c .before .if1 .taken) (c .refused .ensures)
 
 months-before-requires : tie.Need-months-before-requires
-months-before-requires c κs = let w = within 1 9999 (c .before .args .year) (c .if1 .left) in omega arith
+months-before-requires c κs = let w = within 1 lastYear (c .before .args .year) (c .if1 .left) in omega arith
 
 returns-2 : tie.Need-returns-2
 unfolding moladAnswer noMonth
