@@ -1,5 +1,4 @@
 // All 3,652,078 days of the range, there and back, each date mixed into one number.
-ghost use Prim.Native.Nat.{_<_};
 use show::end;
 use show::mixed;
 use show::number;
@@ -11,10 +10,7 @@ struct Walked {
     sum: u64,
 }
 
-fn dated(sum: u64, date: hebrew::HebrewDate) -> u64
-    requires { ⌜ sum < 1000000007 ⌝ }
-    ensures { λ r. ⌜ r < 1000000007 ⌝ }
-{
+fn dated(sum: u64, date: hebrew::HebrewDate) -> u64 {
     let by_year = mixed(mixed(mixed(sum, date.year), date.month), date.day);
     mixed(
         mixed(mixed(by_year, date.new_year), date.length),

@@ -6,7 +6,7 @@ use show::signed;
 use show::text;
 
 pub fn stretch(day: u64) {
-    let answer = rest::stretch(day);
+    let answer = stretch::stretch(day);
     text(b"stretch");
     number(day);
     text(b" ->");
@@ -70,7 +70,7 @@ fn listed(of_stretches: bool, answer: rest::ListAnswer) -> u64 {
 fn ask(of_stretches: bool, year: u64, out: &mut [u64]) -> rest::ListAnswer {
     if of_stretches {
         text(b"stretches");
-        rest::stretches(year, out)
+        stretch::stretches(year, out)
     } else {
         text(b"rest days");
         rest::rest_days(year, out)

@@ -1,5 +1,4 @@
 // The stretch for all 3,652,078 days of the range, and both lists of all 9,999 years, each as one number.
-ghost use Prim.Native.Nat.{_<_};
 use show::end;
 use show::magnitude;
 use show::mixed;
@@ -7,10 +6,7 @@ use show::number;
 use show::text;
 
 // Days left are mixed in as 1 below zero, else 0, and how many they are.
-fn with_stretch(sum: u64, answer: rest::StretchAnswer) -> u64
-    requires { ⌜ sum < 1000000007 ⌝ }
-    ensures { λ r. ⌜ r < 1000000007 ⌝ }
-{
+fn with_stretch(sum: u64, answer: stretch::StretchAnswer) -> u64 {
     let by_first = mixed(
         mixed(mixed(sum, answer.refusal), answer.first),
         answer.length,
@@ -26,16 +22,13 @@ fn every_day() -> u64 {
     let mut sum = 0;
     let mut day = days::FIRST_DAY;
     while day <= days::LAST_DAY {
-        sum = with_stretch(sum, rest::stretch(day));
+        sum = with_stretch(sum, stretch::stretch(day));
         day += 1;
     }
     sum
 }
 
-fn with_entries(sum: u64, out: &[u64]) -> u64
-    requires { ⌜ sum < 1000000007 ⌝ }
-    ensures { λ r. ⌜ r < 1000000007 ⌝ }
-{
+fn with_entries(sum: u64, out: &[u64]) -> u64 {
     let mut sum = sum;
     let mut i = 0;
     while i < out.len() {
@@ -46,14 +39,11 @@ fn with_entries(sum: u64, out: &[u64]) -> u64
 }
 
 // Each answer, and all 140 entries of a buffer of zeros that is lent to it.
-fn with_lists(sum: u64, year: u64) -> u64
-    requires { ⌜ sum < 1000000007 ⌝ }
-    ensures { λ r. ⌜ r < 1000000007 ⌝ }
-{
+fn with_lists(sum: u64, year: u64) -> u64 {
     let mut days = [0u64; 140];
     let mut runs = [0u64; 140];
     let rest_days = rest::rest_days(year, &mut days);
-    let stretches = rest::stretches(year, &mut runs);
+    let stretches = stretch::stretches(year, &mut runs);
     let by_days = with_entries(mixed(mixed(sum, rest_days.refusal), rest_days.count), &days);
     with_entries(
         mixed(mixed(by_days, stretches.refusal), stretches.count),

@@ -62,7 +62,7 @@ fn year(year: u64) {
         return;
     }
     head(year, facts);
-    let mut days = [0u64; 8];
+    let mut days = [0u64; rest::ROWS];
     rest::rest_days(year, &mut days);
     rows(&days);
 }

@@ -2,16 +2,17 @@
 use mathlib.Core.Path.{_≡_, refl, sym, _∙_}
 use mathlib.Core.Bool.{Bool, cond}
 use mathlib.Core.List.{[], _∷_}
-use Prim.Native.Nat.{ℕ, _+_, _-_, _/_, _%_}
+use Prim.Native.Nat.{ℕ, _+_, _-_, _%_}
 use native.Mathlib.Omega.{arith}
 use Rattle.laws.specs.Promise.{_else_, Promised}
 use Rattle.laws.proofs.One.{one-result}
 use Rattle.laws.proofs.Promises.{ranged, asks, answered}
 use Rattle.days.specs.Range.{firstDay, lastDay, InRange}
-use Rattle.molad.specs.Years.{lastYear, InYears, lastNewYear, InNewYears, outOfNewYears, leap, monthsIn}
+use Rattle.molad.specs.Years.{lastYear, InYears, lastNewYear, outOfNewYears, leap, monthsIn}
 use Rattle.molad.specs.Molad.{moladDay, moladTime}
 use Rattle.newyear.specs.NewYear.{newYear, yearLength, yearOf, InYear}
 use Rattle.newyear.specs.Answers.{noNewYear, newYearOn, newYearAnswer, yearAnswer, yearOfDayAnswer}
+use Rattle.newyear.specs.Promises.{PromisedNewYear}
 use Rattle.newyear.specs.Spans.{Spans}
 use Rattle.newyear.specs.Steps.{IsDelay}
 use Rattle.newyear.specs.declared.NewYearAnswer.{NewYearAnswer}
@@ -20,21 +21,12 @@ use Rattle.newyear.specs.declared.YearOfDayAnswer.{YearOfDayAnswer}
 use Rattle.newyear.specs.declared.span.Span.{Span}
 use Rattle.newyear.proofs.YearOf.{held}
 
--- What the New Year of year h promises, by either route: its day j, and the molad's day and time t.
-abbrev pub NewYearPromised : ℕ → ℕ → ℕ → ℕ → NewYearAnswer → Type 0
-NewYearPromised h j moladJ t =
-    Promised (λ (r : NewYearAnswer). r .refusal) (InNewYears h else 1 ∷ [])
-    (λ r.
-    ((r .day ≡ j) × (r .weekday ≡ (j + 1) % 7 + 1))
-    × ((r .«molad_day» ≡ moladJ) × ((r .«molad_hour» ≡ t / 1080) × (r .«molad_part» ≡ t % 1080))))
-    (λ n r. (r .day ≡ 0) × ((r .weekday ≡ 0) × ((r .«molad_day» ≡ 0) × ((r .«molad_hour» ≡ 0) × (r .«molad_part» ≡ 0)))))
-
-pub on-promised : (h j moladJ t : ℕ) → NewYearPromised h j moladJ t (cond (outOfNewYears h) (noNewYear 1) (newYearOn j moladJ t))
+pub on-promised : (h j moladJ t : ℕ) → PromisedNewYear h j moladJ t (cond (outOfNewYears h) (noNewYear 1) (newYearOn j moladJ t))
 on-promised h j moladJ t =
     asks (noNewYear 1) (ranged 1 lastNewYear h) (omega arith) refl (refl, (refl, (refl, (refl, refl)))) (λ _.
     answered refl ((refl, refl), (refl, (refl, refl))))
 
-pub new-year-promised : (h : ℕ) → NewYearPromised h (newYear h) (moladDay h 1) (moladTime h 1) (newYearAnswer h)
+pub new-year-promised : (h : ℕ) → PromisedNewYear h (newYear h) (moladDay h 1) (moladTime h 1) (newYearAnswer h)
 unfolding newYearAnswer
 new-year-promised h = on-promised h (newYear h) (moladDay h 1) (moladTime h 1)
 

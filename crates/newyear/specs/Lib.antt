@@ -4,3 +4,4 @@ pub mod Kinds
 pub mod Answers
 pub mod Spans
 pub mod Steps
+pub mod Promises

@@ -18,7 +18,7 @@ use Rattle.molad.specs.Years.{lastYear, InYears, outOfYears}
 use Rattle.hebrew.specs.Dates.{dayNumber}
 use Rattle.rest.specs.Table.{restTable, restDays}
 use Rattle.rest.specs.Steps.{restOn}
-use Rattle.rest.specs.Promise.{RestDaysOf}
+use Rattle.rest.specs.Promises.{RestDaysOf}
 use Rattle.rest.specs.Answers.{listAnswer, listBuffer, restDaysAnswer, restDaysBuffer}
 use Rattle.rest.specs.declared.ListAnswer.{ListAnswer}
 use Rattle.hebrew.specs.declared.date.YearDate.{YearDate}

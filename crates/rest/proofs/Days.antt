@@ -24,7 +24,7 @@ use Rattle.hebrew.proofs.Placed.{month-short}
 use Rattle.hebrew.proofs.Dates.{adar-one, date-good, date-day, date-back, in-its-year}
 use Rattle.rest.specs.Table.{row, rowDate, inTable, isRest, restDay, restDays}
 use Rattle.rest.specs.Check.{rowGood, passes}
-use Rattle.rest.specs.Promise.{RestDaysOf}
+use Rattle.rest.specs.Promises.{RestDaysOf}
 use Rattle.rest.proofs.Rows.{GoodRow, good-row, days-at, days-length}
 use Rattle.rest.proofs.RestOfYear.{rows-good}
 

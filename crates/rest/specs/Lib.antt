@@ -1,5 +1,5 @@
 pub mod Answers
 pub mod Check
-pub mod Promise
+pub mod Promises
 pub mod Steps
 pub mod Table

@@ -6,17 +6,18 @@ use Rattle.molad.specs.Molad.{moladDay, moladTime}
 use Rattle.newyear.specs.NewYear.{newYear}
 use Rattle.newyear.specs.Answers.{newYearAnswer}
 use Rattle.newyear.specs.declared.NewYearAnswer.{NewYearAnswer}
-use Rattle.newyear.proofs.Answers.{NewYearPromised, on-promised, new-year-promised}
+use Rattle.newyear.specs.Promises.{PromisedNewYear}
+use Rattle.newyear.proofs.Answers.{on-promised, new-year-promised}
 use Rattle.rhodes.specs.Steps.{rhodesNewYear, rhodesMoladDay, rhodesMoladTime}
 use Rattle.rhodes.specs.Answers.{rhodesAnswer, routeOf, IsRoute}
 use Rattle.rhodes.specs.declared.steps.Route.{Route}
 use Rattle.rhodes.proofs.Same.{same-answer}
 
-pub new-year-rhodes-promised : (h : ℕ) → NewYearPromised h (rhodesNewYear h) (rhodesMoladDay h) (rhodesMoladTime h) (rhodesAnswer h)
+pub new-year-rhodes-promised : (h : ℕ) → PromisedNewYear h (rhodesNewYear h) (rhodesMoladDay h) (rhodesMoladTime h) (rhodesAnswer h)
 unfolding rhodesAnswer
 new-year-rhodes-promised h = on-promised h (rhodesNewYear h) (rhodesMoladDay h) (rhodesMoladTime h)
 
-pub new-year-rhodes-counted : (h : ℕ) → NewYearPromised h (newYear h) (moladDay h 1) (moladTime h 1) (rhodesAnswer h)
+pub new-year-rhodes-counted : (h : ℕ) → PromisedNewYear h (newYear h) (moladDay h 1) (moladTime h 1) (rhodesAnswer h)
 new-year-rhodes-counted h = rw (same-answer h) (new-year-promised h)
 
 -- One answer, and one result of the step.

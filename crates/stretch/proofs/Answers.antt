@@ -24,7 +24,7 @@ use Rattle.rest.proofs.Passed.{table-passes}
 use Rattle.rest.proofs.Answers.{list-promised, list-lent}
 use Rattle.rest.specs.declared.ListAnswer.{ListAnswer}
 use Rattle.stretch.specs.Stretches.{nextRest, stretchFirst, stretchRows}
-use Rattle.stretch.specs.Promise.{StretchAhead, StretchPromise, StretchesOf, StretchesPromise}
+use Rattle.stretch.specs.Promises.{StretchAhead, PromisedStretch, StretchesOf, PromisedStretches}
 use Rattle.stretch.specs.Answers.{noStretch, stretchAnswer, stretchesAnswer, stretchesBuffer}
 use Rattle.stretch.specs.declared.StretchAnswer.{StretchAnswer}
 use Rattle.stretch.proofs.Theorems.{at-most-three, stretch-for, days-left, none-ahead}
@@ -54,7 +54,7 @@ module _ (table : List ℕ) (ok : passes table ≡ true) where
       (λ p. absurd (none-ahead table ok j i p (m .first) (m .count) (m .a-stretch) (m .not-over)))
       (λ p. omega arith)
 
-  pub stretch-told : (j : ℕ) → StretchPromise table j (stretchAnswer table j)
+  pub stretch-told : (j : ℕ) → PromisedStretch table j (stretchAnswer table j)
   unfolding stretchAnswer
   stretch-told j =
       asks (noStretch 4) (ranged firstDay lastDay j) (omega arith) refl (refl, (refl, refl)) (λ i.
@@ -64,7 +64,7 @@ module _ (table : List ℕ) (ok : passes table ≡ true) where
       answered refl
       (f, (at-most-three table ok _ _ (f .a-stretch), (sym (minus (stretchFirst table j) j), few-left (stretchFirst table j) j (d .0) (d .1))))))
 
-  pub stretches-told : (h : ℕ) (buffer : List ℕ) → StretchesPromise table h buffer (stretchesAnswer table h buffer)
+  pub stretches-told : (h : ℕ) (buffer : List ℕ) → PromisedStretches table h buffer (stretchesAnswer table h buffer)
   stretches-told h buffer =
       let p = list-promised h buffer (stretchRows table h) (length (stretchRows table h) / 2) in
       record { done = p .done; values = λ m. rw (p .values m) (two-each table ok h); refused = p .refused; besides = p .besides }
@@ -83,10 +83,10 @@ module _ (table : List ℕ) (ok : passes table ≡ true) where
       (stretches-of table ok h (met .0 .0) (met .0 .1))
 
 -- So for document 01's table.
-pub stretch-promised : (j : ℕ) → StretchPromise restTable j (stretchAnswer restTable j)
+pub stretch-promised : (j : ℕ) → PromisedStretch restTable j (stretchAnswer restTable j)
 stretch-promised = stretch-told restTable table-passes
 
-pub stretches-promised : (h : ℕ) (buffer : List ℕ) → StretchesPromise restTable h buffer (stretchesAnswer restTable h buffer)
+pub stretches-promised : (h : ℕ) (buffer : List ℕ) → PromisedStretches restTable h buffer (stretchesAnswer restTable h buffer)
 stretches-promised = stretches-told restTable table-passes
 
 -- One answer, and one state of the buffer.

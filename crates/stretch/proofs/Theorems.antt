@@ -20,7 +20,7 @@ use Rattle.rest.specs.Table.{isRest, restDay}
 use Rattle.rest.specs.Check.{passes}
 use Rattle.rest.proofs.RestOfYear.{eve-works, no-four, rest-in-range}
 use Rattle.stretch.specs.Stretches.{StretchFor, daysFrom, nextRest, stretchFirst, stretchPast}
-use Rattle.stretch.specs.Promise.{StretchAhead}
+use Rattle.stretch.specs.Promises.{StretchAhead}
 
 module _ (table : List ℕ) (ok : passes table ≡ true) where
   abbrev rest : ℕ → Bool

@@ -18,7 +18,7 @@ use Rattle.rest.specs.Table.{restDay}
 use Rattle.rest.specs.Check.{passes}
 use Rattle.rest.proofs.RestOfYear.{rest-in-range}
 use Rattle.stretch.specs.Stretches.{daysFrom, begins, rowAt, rows, stretchRows}
-use Rattle.stretch.specs.Promise.{Listed, here, there, Rising, StretchesOf}
+use Rattle.stretch.specs.Promises.{Listed, here, there, Rising, StretchesOf}
 use Rattle.stretch.proofs.Theorems.{ends-in-range, around}
 
 data Pairs : List ℕ → Type 0 where

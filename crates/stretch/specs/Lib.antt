@@ -1,4 +1,4 @@
 pub mod Answers
-pub mod Promise
+pub mod Promises
 pub mod Steps
 pub mod Stretches

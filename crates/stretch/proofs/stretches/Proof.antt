@@ -10,9 +10,11 @@ use Rattle.laws.specs.Buffer.{overwrite}
 use Rattle.laws.proofs.Tests.{within}
 use Rattle.molad.specs.Years.{lastYear}
 use Rattle.rest.specs.Table.{restTable}
+use Rattle.rest.specs.Steps.{restAt}
 use Rattle.rest.specs.Answers.{listAnswer, listBuffer}
 use Rattle.rest.proofs.Passed.{table-passes}
 use Rattle.stretch.specs.Stretches.{stretchRows}
+use Rattle.stretch.specs.Steps.{rowsAt}
 use Rattle.stretch.proofs.Ended.{stretches-same}
 use Rattle.stretch.proofs.stretches.Statement.{statement}
 use Rattle.stretch.proofs.stretches.Tie as tie
@@ -34,7 +36,9 @@ listed c =
     let e = y .year-span .ensures in
     let n = c .write-rows .ensures in
     let same = rw (← e .days, ← e .begins, ← w .weekday-of .ensures) at (stretches-same restTable table-passes h (e .first) (e .last)) in
-    rw (same, n .1 .1) (n .0, rw (n .0) (take-append-seam _ _))
+    let rest = restAt restTable (w .weekday-of .result) (y .year-span .result .length) in
+    let rows = rowsAt rest (y .year-span .result .«new_year») (y .year-span .result .length) in
+    rw (same, n .1 .1) (n .0, rw (n .0) (take-append-seam rows _))
 
 returns-2 : tie.Need-returns-2
 unfolding listAnswer listBuffer

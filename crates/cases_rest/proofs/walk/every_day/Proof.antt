@@ -1,10 +1,10 @@
 use borrow.Author.Needs.{needs}
-use Prim.Native.Nat.{_<_, _-_}
+use Prim.Native.Nat.{_-_}
 use Rattle.cases_rest.proofs.walk.every_day.Statement.{statement}
 use Rattle.cases_rest.proofs.walk.every_day.Tie as tie
 
 abbrev Inv-loop : tie.InvT-loop
-Inv-loop sum₀ day₀ sum day = sum < 1000000007
+Inv-loop sum₀ day₀ sum day = Unit {0}
 
 abbrev μ-loop : tie.MeasureT-loop
 μ-loop sum₀ day₀ sum day = 4000076 - day

@@ -1,10 +1,10 @@
 use borrow.Author.Needs.{needs}
-use Prim.Native.Nat.{_<_, _-_}
+use Prim.Native.Nat.{_-_}
 use Rattle.cases_rest.proofs.walk.every_year.Statement.{statement}
 use Rattle.cases_rest.proofs.walk.every_year.Tie as tie
 
 abbrev Inv-loop : tie.InvT-loop
-Inv-loop sum₀ year₀ sum year = sum < 1000000007
+Inv-loop sum₀ year₀ sum year = Unit {0}
 
 abbrev μ-loop : tie.MeasureT-loop
 μ-loop sum₀ year₀ sum year = 10000 - year

@@ -1,11 +1,11 @@
 use borrow.Author.Needs.{needs}
-use Prim.Native.Nat.{_≤_, _<_, _-_}
+use Prim.Native.Nat.{_≤_, _-_}
 use lib.ListN.{length}
 use Rattle.cases_rest.proofs.walk.with_entries.Statement.{statement}
 use Rattle.cases_rest.proofs.walk.with_entries.Tie as tie
 
 abbrev Inv-loop : tie.InvT-loop
-Inv-loop sum out sum₀ i₀ sum' i = (i ≤ length out) × (sum' < 1000000007)
+Inv-loop sum out sum₀ i₀ sum' i = i ≤ length out
 
 abbrev μ-loop : tie.MeasureT-loop
 μ-loop sum out sum₀ i₀ sum' i = length out - i

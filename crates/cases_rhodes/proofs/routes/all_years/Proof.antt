@@ -6,7 +6,7 @@ use Rattle.cases_rhodes.proofs.routes.all_years.Statement.{statement}
 use Rattle.cases_rhodes.proofs.routes.all_years.Tie as tie
 
 abbrev Inv-loop : tie.InvT-loop
-Inv-loop disagreements₀ sum₀ year₀ disagreements sum year = (disagreements < year) × (sum < 1000000007)
+Inv-loop disagreements₀ sum₀ year₀ disagreements sum year = disagreements < year
 
 abbrev μ-loop : tie.MeasureT-loop
 μ-loop disagreements₀ sum₀ year₀ disagreements sum year = 10001 - year

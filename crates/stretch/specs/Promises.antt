@@ -25,8 +25,8 @@ pub record StretchAhead (table : List ℕ) (j : ℕ) : Type 0 where
   pub not-over : j < first + count
 
 -- What `stretch` promises for day j.
-abbrev pub StretchPromise : List ℕ → ℕ → StretchAnswer → Type 0
-StretchPromise table j =
+abbrev pub PromisedStretch : List ℕ → ℕ → StretchAnswer → Type 0
+PromisedStretch table j =
     Promised (λ (r : StretchAnswer). r .refusal) (InRange j else 4 ∷ StretchAhead table j else 9 ∷ [])
     (λ r.
     StretchFor table j (r .first) (r .length)
@@ -52,7 +52,7 @@ pub record StretchesOf (table : List ℕ) (h : ℕ) (list : List ℕ) : Type 0 w
   pub rising : Rising (newYear h) list
 
 -- What `stretches` promises for year h: two entries for each stretch.
-abbrev pub StretchesPromise : List ℕ → ℕ → List ℕ → ListAnswer → Type 0
-StretchesPromise table h buffer =
+abbrev pub PromisedStretches : List ℕ → ℕ → List ℕ → ListAnswer → Type 0
+PromisedStretches table h buffer =
     Promised (λ (r : ListAnswer). r .refusal) (InYears h else 1 ∷ (length (stretchRows table h) ≤ length buffer) else 10 ∷ [])
     (λ r. 2 * r .count ≡ length (stretchRows table h)) (λ n r. r .count ≡ cond (eqb n 10) (length (stretchRows table h)) 0)
