@@ -10,7 +10,7 @@ ghost use mathlib.Core.Path.{_≡_};
 ghost use Prim.Native.Nat.{_≤_};
 ghost use lib.IntN.{subℕ};
 ghost use Rattle.rest.specs.Table.{restTable};
-ghost use Rattle.stretch.specs.Answers.{stretchAnswer, stretchesAnswer, stretchesBuffer};
+ghost use Rattle.stretch.specs.Answers.{noStretch, stretchAnswer, stretchesAnswer, stretchesBuffer};
 
 #[repr(C)]
 pub struct StretchAnswer {
@@ -28,29 +28,30 @@ fn days_left(first: u64, day: u64) -> i64
     (first as i64) - (day as i64)
 }
 
+fn refused(number: u64) -> StretchAnswer
+    ensures { λ r. ⌜ r ≡ noStretch number ⌝ }
+{
+    StretchAnswer {
+        refusal: number,
+        first: 0,
+        length: 0,
+        days_left: 0,
+    }
+}
+
 // Refusal 4 for a day outside the range; 9 where no stretch in range ends on or after the day.
 pub fn stretch(day: u64) -> StretchAnswer
     ensures { λ r. ⌜ r ≡ stretchAnswer restTable day ⌝ }
 {
     if days::out_of_range(day) {
-        return StretchAnswer {
-            refusal: 4,
-            first: 0,
-            length: 0,
-            days_left: 0,
-        };
+        return refused(4);
     }
     let span = newyear::year_holding(day);
     let weekday = days::weekday_of(span.new_year);
     let run = runs::run_for(weekday, span.length, day - span.new_year);
     let first = span.new_year + run.first;
     if days::LAST_DAY < first {
-        return StretchAnswer {
-            refusal: 9,
-            first: 0,
-            length: 0,
-            days_left: 0,
-        };
+        return refused(9);
     }
     StretchAnswer {
         refusal: 0,

@@ -20,7 +20,7 @@ returns-2 : tie.Need-returns-2
 unfolding listAnswer listBuffer restDays
 returns-2 c =
     let o = c .before .if1 .left in
-    (rw (o, lt-ltb _ 8 (c .if2 .taken)), rw (o, lt-ltb _ 8 (c .if2 .taken)))
+    (rw (o, lt-ltb _ _ (c .if2 .taken)), rw (o, lt-ltb _ _ (c .if2 .taken)))
 
 write-days-requires : tie.Need-write-days-requires
 write-days-requires c κs =
@@ -36,7 +36,7 @@ returns-3 c =
     let y = d .before .before in
     let t = y .before .before in
     let o = t .before .if1 .left in
-    let l = le-ltb _ 8 (t .if2 .left) in
+    let l = le-ltb _ _ (t .if2 .left) in
     (rw (o, l), rw (o, l) (rw (y .year-span .ensures .year) at (d .write-days .ensures)))
 
 pub rest-days-spec : {M : Type 1} → statement M

@@ -50,10 +50,10 @@ answered c =
 
 returns : tie.Need-returns
 unfolding stretchAnswer
-returns c = rw (← c .before .out-of-range .ensures, c .if1 .taken)
+returns c = let t = c .before in rw (← t .before .out-of-range .ensures, t .if1 .taken) (c .refused .ensures)
 
 returns-2 : tie.Need-returns-2
-returns-2 c = rw (answered (c .before .before .before), lt-ltb lastDay _ (c .if2 .taken))
+returns-2 c = let t = c .before in rw (answered (t .before .before .before), lt-ltb lastDay _ (t .if2 .taken)) (c .refused2 .ensures)
 
 returns-3 : tie.Need-returns-3
 returns-3 c =
@@ -69,6 +69,7 @@ stretch-spec =
     tie.close
     (tie.spec
     (search needs)
+    (search needs)
     returns
     (λ c κs. ranged c)
     (search needs)
@@ -76,6 +77,7 @@ stretch-spec =
     (λ c κs.
     let s = c .before .before in
     let i = inside s in (omega arith, (s .year-holding .ensures .measured, omega arith)))
+    (search needs)
     (search needs)
     returns-2
     (λ c. c .before .before .before .before .run-for .ensures .1 .0)
