@@ -4,7 +4,7 @@
 // it, a Gregorian one also, but not if 100 divides it and 400 does not. Each is carried back without a break, with a
 // year 0, to −3760, so a year's own number decides at any time. Inside, a year is counted as year + 4,000, its raised
 // year, and a calendar's years and days are split by whole divisions: four Julian years have 1,461 days, four
-// Gregorian centuries have 146,097. What is left, the day of the year, both calendars read from the same two tables
+// Gregorian centuries have 146,097. What remains, the day of the year, both calendars read from the same two tables
 // of months, a common year's and a leap year's.
 mod gregorian;
 mod julian;

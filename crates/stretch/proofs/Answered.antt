@@ -51,7 +51,7 @@ module _ (table : List ℕ) (ok : passes table ≡ true) (h : ℕ) (l : 1 ≤ h)
   abbrev next : ℕ
   next = nextAt here len x
 
-  -- Where a rest day is left in the year.
+  -- Where a rest day follows in the year.
   module _ (p : next < len) where
     first-here : firstFor here len x ≡ runStart here next
     unfolding firstFor
@@ -61,7 +61,7 @@ module _ (table : List ℕ) (ok : passes table ≡ true) (h : ℕ) (l : 1 ≤ h)
     unfolding pastFor
     past-here = rw (lt-ltb next len p)
 
-  -- Where none is left: the next New Year, or the end of the range.
+  -- Where none follows: the next New Year, or the end of the range.
   module _ (p : len ≤ next) where
     next-len : newYear h + next ≡ newYear (h + 1)
     next-len = omega (arith, told table ok h l u x d .high, next-year table ok h l u)

@@ -18,7 +18,7 @@ use Rattle.rest.specs.Table.{restDay}
 use Rattle.rest.specs.Check.{passes}
 use Rattle.rest.proofs.RestOfYear.{rest-in-range}
 use Rattle.stretch.specs.Stretches.{daysFrom, begins, rowAt, rows, stretchRows}
-use Rattle.stretch.specs.Promises.{Listed, here, there, Rising, StretchesOf}
+use Rattle.stretch.specs.Promises.{Listed, here, there, FirstDaysRise, StretchesOf}
 use Rattle.stretch.proofs.Theorems.{ends-in-range, around}
 
 data Pairs : List ℕ → Type 0 where
@@ -117,7 +117,7 @@ Below n [] = Unit {0}
 Below n (f ∷ []) = ⊥
 Below n (f ∷ c ∷ l) = (f < n) × Below n l
 
-rising-more : {l : List ℕ} (from n c : ℕ) → Pairs l → from ≤ n → Rising from l → Below n l → Rising from (l ++ (n ∷ c ∷ []))
+rising-more : {l : List ℕ} (from n c : ℕ) → Pairs l → from ≤ n → FirstDaysRise from l → Below n l → FirstDaysRise from (l ++ (n ∷ c ∷ []))
 rising-more from n c none p r b = (p, tt)
 rising-more from n c (more q) p r b = (r .0, rising-more _ n c q (omega (arith, b .0)) (r .1) (b .1))
 
@@ -130,7 +130,7 @@ below-later n m none p b = tt
 below-later n m (more q) p b = (omega (arith, b .0), below-later n m q p (b .1))
 
 module _ (table : List ℕ) (ok : passes table ≡ true) where
-  rise : (j k : ℕ) → Rising j (rows (restDay table) j k) × Below (j + k) (rows (restDay table) j k)
+  rise : (j k : ℕ) → FirstDaysRise j (rows (restDay table) j k) × Below (j + k) (rows (restDay table) j k)
   unfolding rows rowAt
   rise j zero = (tt, tt)
   rise j (suc k) = go (begins (restDay table) (j + k)) _ (rise j k)
@@ -138,7 +138,7 @@ module _ (table : List ℕ) (ok : passes table ≡ true) where
       l : List ℕ
       l = rows (restDay table) j k
 
-      go : (b : Bool) (c : ℕ) → Rising j l × Below (j + k) l → Rising j (l ++ cond b ((j + k) ∷ c ∷ []) []) × Below (j + suc k) (l ++ cond b ((j + k) ∷ c ∷ []) [])
+      go : (b : Bool) (c : ℕ) → FirstDaysRise j l × Below (j + k) l → FirstDaysRise j (l ++ cond b ((j + k) ∷ c ∷ []) []) × Below (j + suc k) (l ++ cond b ((j + k) ∷ c ∷ []) [])
       go true c r =
           let p = in-pairs table ok j k in
           (rising-more j (j + k) c p (omega arith) (r .0) (r .1), below-more (j + k) (j + suc k) c p (omega arith) (r .1))

@@ -40,16 +40,16 @@ pub data Listed (first count : ℕ) : List ℕ → Type 0 where
   there : {a b : ℕ} {l : List ℕ} → Listed first count l → Listed first count (a ∷ b ∷ l)
 
 -- Rising: each first day comes after the one before it.
-abbrev pub Rising : ℕ → List ℕ → Type 0
-Rising from [] = Unit {0}
-Rising from (f ∷ []) = ⊥
-Rising from (f ∷ c ∷ l) = (from ≤ f) × Rising (f + 1) l
+abbrev pub FirstDaysRise : ℕ → List ℕ → Type 0
+FirstDaysRise from [] = Unit {0}
+FirstDaysRise from (f ∷ []) = ⊥
+FirstDaysRise from (f ∷ c ∷ l) = (from ≤ f) × FirstDaysRise (f + 1) l
 
 -- Every stretch that begins in the year, no other, rising.
 pub record StretchesOf (table : List ℕ) (h : ℕ) (list : List ℕ) : Type 0 where
   pub every : (f c : ℕ) → Run (restDay table) f c → newYear h ≤ f → f < newYear (h + 1) → Listed f c list
   pub only : (f c : ℕ) → Listed f c list → Run (restDay table) f c × ((newYear h ≤ f) × (f < newYear (h + 1)))
-  pub rising : Rising (newYear h) list
+  pub rising : FirstDaysRise (newYear h) list
 
 -- What `stretches` promises for year h: two entries for each stretch.
 abbrev pub PromisedStretches : List ℕ → ℕ → List ℕ → ListAnswer → Type 0

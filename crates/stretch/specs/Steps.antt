@@ -10,8 +10,8 @@ use Rattle.laws.specs.Search.{seek, seekNot, runStart}
 unfoldable pub nextAt : (ℕ → Bool) → ℕ → ℕ → ℕ
 nextAt rest len x = seek rest (len - x) x
 
--- The run for day x, its first day and the day after its last: that of the next rest day in the year or, where none is
--- left, the run that the next New Year begins. Of that year's days `next` tells; they are counted on past the length.
+-- The run for day x, its first day and the day after its last: that of the next rest day in the year or, where there is
+-- none, the run that the next New Year begins. Of that year's days `next` tells; they are counted on past the length.
 unfoldable pub firstFor : (ℕ → Bool) → ℕ → ℕ → ℕ
 firstFor rest len x = let n = nextAt rest len x in cond (ltb n len) (runStart rest n) len
 

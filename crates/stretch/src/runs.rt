@@ -61,7 +61,8 @@ pub struct Stretch {
     pub past: u64,
 }
 
-// The run for day x: that of the next rest day or, where none is left in the year, the run that the next New Year begins.
+// The run for day x: that of the next rest day in the year or, where there is none, the run that the next New Year
+// begins.
 pub fn run_for(weekday: u64, length: u64, x: u64) -> Stretch
     requires { ⌜ (weekday ≤ 7) × ((IsLength length) × (x < length)) ⌝ }
     ensures { λ r. ⌜ ((r .first ≡ firstFor (restAt restTable weekday length) length x)

@@ -1,4 +1,4 @@
--- The rows are printed one by one, and the places left grow fewer.
+-- The rows are printed one by one, and the places that remain grow fewer.
 use borrow.Author.Needs.{needs}
 use Prim.Native.Nat.{_≤_, _-_}
 use lib.ListN.{length}

@@ -1,4 +1,4 @@
--- What has come lies within the room, and the room left grows smaller at each byte.
+-- What has come lies within the room, and the room that remains grows smaller at each byte.
 use borrow.Author.Needs.{needs}
 use mathlib.Core.Path.{_≡_, sym}
 use mathlib.Core.List.{List}
