@@ -14,7 +14,7 @@ ghost use Rattle.stretch.specs.Steps.{firstFor, pastFor};
 // The first day from a date on that is a rest day or, where it is not wanted, that is none; the day after the year where
 // there is no such day.
 fn first_day(weekday: u64, length: u64, from: YearDate, wanted: bool) -> YearDate
-    requires { ⌜ (weekday ≤ 400) × ((IsLength length) × ((from .after < length) × (from ≡ yearDate length (from .after)))) ⌝ }
+    requires { ⌜ (weekday ≤ 400) × ((IsLength length) × ((from .after ≤ length) × (from ≡ yearDate length (from .after)))) ⌝ }
     ensures { λ r. ⌜ r ≡ yearDate length
         (seek (λ k. cond wanted (restAt restTable weekday length k) (not (restAt restTable weekday length k))) (length - from .after) (from .after)) ⌝ }
 {
@@ -70,7 +70,7 @@ pub fn run_for(weekday: u64, length: u64, x: u64) -> Stretch
 {
     let next = first_day(weekday, length, hebrew::date_after(length, x), true);
     if next.after < length {
-        let past = first_day(weekday, length, next, false);
+        let past = first_day(weekday, length, hebrew::next_date(length, next), false);
         Stretch {
             first: first_for(weekday, length, x, next.after),
             past: past.after,

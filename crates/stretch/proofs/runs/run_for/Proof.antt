@@ -8,10 +8,11 @@ use borrow.Author.Tests.{lt-ltb, le-ltb}
 use Rattle.laws.specs.Search.{seek, seekNot}
 use Rattle.laws.proofs.Found.{Seek, seek-tells}
 use Rattle.hebrew.specs.Steps.{yearDate}
+use Rattle.hebrew.proofs.Walked.{tomorrow-is}
 use Rattle.rest.specs.Table.{restTable}
 use Rattle.rest.specs.Steps.{restAt}
 use Rattle.stretch.specs.Steps.{nextAt, firstFor, pastFor}
-use Rattle.stretch.proofs.Walk.{at-date}
+use Rattle.stretch.proofs.Walk.{at-date, search-on, walked-small}
 use Rattle.stretch.proofs.runs.run_for.Statement.{statement}
 use Rattle.stretch.proofs.runs.run_for.Tie as tie
 
@@ -34,20 +35,38 @@ told c = rw (next c .0) (seek-tells _ _ _)
 
 first-for-requires : tie.Need-first-for-requires
 first-for-requires c κs =
-    let f = c .before .before .before in
+    let f = c .before .before .before .before in
     let s = f .before .before in
     let t = told f in
     (omega arith, (s .pre .1 .0, (omega arith, λ p. t .none _ (omega arith) (omega arith))))
 
+-- The day after it.
+after :
+    (c : tie.After-next-date) →
+    let a = c .before .before .before .before .before .args in
+    let d = c .next-date .result in
+    (d .after ≡ c .before .before .before .first-day .result .after + 1) × (d ≡ yearDate (a .length) (d .after))
+after c =
+    let f = c .before .before .before in
+    let s = f .before .before in
+    at-date _ _ _ (rw (next f .1) at (c .next-date .ensures) ∙ tomorrow-is (s .args .length) (f .first-day .result .after) (s .pre .1 .0) (c .before .if1 .taken))
+
 -- Where the run ends: its own, or that of the next New Year.
 ends :
     (c : tie.After-first-day2) →
-    let d = c .before .before .before .first-day .result in
-    let a = c .before .before .before .before .before .args in
+    let d = c .before .before .before .before .first-day .result in
+    let a = c .before .before .before .before .before .before .args in
     let k = c .first-day2 .result .after in
     (k ≡ seekNot (restAt restTable (a .weekday) (a .length)) (a .length - d .after) (d .after)) × Seek (λ k. not (restAt restTable (a .weekday) (a .length) k)) (a .length - d .after) (d .after) k
 unfolding seekNot
-ends c = let e = at-date _ _ _ (c .first-day2 .ensures) .0 in (e, rw e (seek-tells _ _ _))
+ends c =
+    let t = c .before .before in
+    let f = t .before .before in
+    let a = f .before .before .args in
+    let n = f .first-day .result .after in
+    let rest = restAt restTable (a .weekday) (a .length) in
+    let on = search-on (λ k. not (rest k)) (a .length) n (t .if1 .taken) (rw (told f .pass (omega arith))) in
+    let e = at-date _ _ _ (rw (after (c .before) .0) at (c .first-day2 .ensures)) .0 ∙ sym on in (e, rw e (seek-tells _ _ _))
 
 first : (c : tie.After-date-after2) → (c .date-after2 .result .after ≡ 0) × (c .date-after2 .result ≡ yearDate (c .before .before .before .before .before .args .length) (c .date-after2 .result .after))
 first c = at-date _ 0 _ (c .date-after2 .ensures)
@@ -67,7 +86,7 @@ returns : tie.Need-returns
 unfolding firstFor pastFor
 returns c =
     let p = c .before in
-    let t = p .before in
+    let t = p .before .before in
     let f = t .before .before in
     let e = ends p in
     let b = lt-ltb _ _ (t .if1 .taken) in
@@ -91,7 +110,8 @@ run-for-spec =
     (tie.spec
     (λ c κs. c .pre .1)
     (λ c κs. let b = begun c in (omega arith, (c .before .pre .1 .0, (omega arith, b .1))))
-    (λ c κs. let f = c .before .before in (omega arith, (f .before .before .pre .1 .0, (c .if1 .taken, next f .1))))
+    (λ c κs. let f = c .before .before in walked-small _ _ (next f .1) (f .before .before .pre .1 .0) (omega arith))
+    (λ c κs. let s = c .before .before .before .before .before in let d = after c in (omega arith, (s .pre .1 .0, (omega arith, d .1))))
     first-for-requires
     (search needs)
     (λ c κs. let s = c .before .before .before .before in (s .pre .1 .0, omega arith))
