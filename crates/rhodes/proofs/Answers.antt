@@ -8,8 +8,9 @@ use Rattle.newyear.specs.Answers.{newYearAnswer}
 use Rattle.newyear.specs.declared.NewYearAnswer.{NewYearAnswer}
 use Rattle.newyear.specs.Promises.{PromisedNewYear}
 use Rattle.newyear.proofs.Answers.{on-promised, new-year-promised}
-use Rattle.rhodes.specs.Steps.{rhodesNewYear, rhodesMoladDay, rhodesMoladTime}
-use Rattle.rhodes.specs.Answers.{rhodesAnswer, routeOf, IsRoute}
+use Rattle.rhodes.specs.Rhodes.{rhodesNewYear, rhodesMoladDay, rhodesMoladTime}
+use Rattle.rhodes.specs.Answers.{rhodesAnswer}
+use Rattle.rhodes.specs.Steps.{routeOf, IsRoute}
 use Rattle.rhodes.specs.declared.steps.Route.{Route}
 use Rattle.rhodes.proofs.Same.{same-answer}
 

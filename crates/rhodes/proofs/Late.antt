@@ -1,6 +1,6 @@
 -- The delays of the two routes agree, for every weekday and every time of the day.
 use mathlib.Core.Path.{_≡_, refl, ap}
-use mathlib.Core.Bool.{Bool, false, not, cond, _&&_, and-true, and-false}
+use mathlib.Core.Bool.{Bool, true, false, not, cond, _&&_, and-true, and-false}
 use mathlib.Core.List.{[], _∷_}
 use mathlib.Core.Logic.{by-cases}
 use Prim.Native.Nat.{ℕ, zero, suc, _+_, _-_, _%_, _≤_, _<_}
@@ -12,7 +12,7 @@ use borrow.Author.Tests.{le-leb, lt-leb, le-ltb, lt-ltb}
 use Rattle.laws.specs.Runs.{elem}
 use Rattle.laws.proofs.Tests.{cond-le}
 use Rattle.newyear.specs.Delays.{delay, noonStep, weekdayStep, tuesdayRule, mondayRule}
-use Rattle.rhodes.specs.Steps.{pastNoon, mondayLine, tuesdayLine, lateBy}
+use Rattle.rhodes.specs.Rhodes.{pastNoon, mondayLine, tuesdayLine, lateBy}
 
 -- After the noon step neither the Monday nor the Tuesday line can fire.
 pub after-noon : (n w t : ℕ) → t < 25920 → (mondayLine n w (t - 19440) ≡ false) × (tuesdayLine n w (t - 19440) ≡ false)
@@ -66,10 +66,18 @@ module _ (isLeap afterLeap : Bool) (n w t : ℕ) (c : not isLeap ≡ ltb 6 n) (a
       rw (lt-leb 19440 t p, lt-ltb t 19440 p, c, a)
       (simp (and-true, zero-add, add-zero) (agree n (leb 9924 t) (leb 16789 t) w l (omega arith)))
 
+-- Each line fires at its very limit, and not one part earlier, nor one place in the cycle.
+pub at-her-limits :
+    ((pastNoon 19440 ≡ true) × (pastNoon 19439 ≡ false))
+    × (((lateBy 12 2 16789 ≡ 1) × ((lateBy 12 2 16788 ≡ 0) × (lateBy 11 2 16789 ≡ 0)))
+    × ((lateBy 7 3 9924 ≡ 2) × ((lateBy 7 3 9923 ≡ 0) × (lateBy 6 3 9924 ≡ 0))))
+unfolding pastNoon lateBy mondayLine tuesdayLine
+at-her-limits = ((refl, refl), ((refl, (refl, refl)), (refl, (refl, refl))))
+
 -- Rhodes' delay has at most two days.
-pub at-most-two : (n w f : ℕ) → lateBy n w f ≤ 2
+pub late-at-most-two : (n w f : ℕ) → lateBy n w f ≤ 2
 unfolding lateBy
-at-most-two n w f =
+late-at-most-two n w f =
     cond-le (elem w (1 ∷ 4 ∷ 6 ∷ [])) 1 _ 2 (omega arith)
     (cond-le (mondayLine n w f) 1 _ 2 (omega arith) (cond-le (tuesdayLine n w f) 2 0 2 (omega arith) (omega arith)))
 

@@ -9,7 +9,7 @@ use Rattle.molad.specs.Years.{lastNewYear, monthsBefore}
 use Rattle.molad.specs.Molad.{moladAfter, moladDay, moladTime}
 use Rattle.molad.proofs.Closed.{months-closed}
 use Rattle.newyear.proofs.Quick.{tishri-day, tishri-time}
-use Rattle.rhodes.specs.Steps.{place, sinceLeap, distance, dayOfAugust, moladAugust, moladPart, rhodesMoladDay, rhodesMoladTime}
+use Rattle.rhodes.specs.Rhodes.{place, sinceLeap, distance, dayOfAugust, moladAugust, moladPart, rhodesMoladDay, rhodesMoladTime}
 use Rattle.rhodes.proofs.Place.{place-remainder}
 
 -- D is above zero up to year 10,000.

@@ -13,7 +13,7 @@ use Rattle.laws.proofs.Tests.{equal}
 use Rattle.laws.proofs.Cycle.{cycle-mod}
 use Rattle.molad.specs.Years.{leap}
 use Rattle.molad.proofs.Closed.{remainder, remainder-cycle, leap-remainder}
-use Rattle.rhodes.specs.Steps.{place}
+use Rattle.rhodes.specs.Rhodes.{place}
 
 -- The test, in one cycle.
 sums : every 0 19 (λ g. eqb ((12 * g + 5) % 19 + (235 * g + 13) % 19) 18) ≡ true

@@ -15,7 +15,7 @@ use Rattle.molad.specs.Molad.{moladDay, moladTime}
 use Rattle.newyear.specs.Delays.{delay}
 use Rattle.newyear.specs.NewYear.{newYear}
 use Rattle.newyear.specs.Answers.{newYearOn, newYearAnswer}
-use Rattle.rhodes.specs.Steps.{place, sinceLeap, distance, moladAugust, moladPart, pastNoon, noonAugust, noonPart, weekdayOfAugust, lateBy, delayOf, dayOfAugust, rhodesNewYear, rhodesMoladDay, rhodesMoladTime}
+use Rattle.rhodes.specs.Rhodes.{place, sinceLeap, distance, moladAugust, moladPart, pastNoon, noonAugust, noonPart, weekdayOfAugust, lateBy, delayOf, dayOfAugust, rhodesNewYear, rhodesMoladDay, rhodesMoladTime}
 use Rattle.rhodes.specs.Answers.{rhodesAnswer}
 use Rattle.rhodes.proofs.Place.{common, after-leap}
 use Rattle.rhodes.proofs.Molad.{above-zero, august-day, same-molad-day, same-molad-time}

@@ -1,2 +1,3 @@
-pub mod Steps
+pub mod Rhodes
 pub mod Answers
+pub mod Steps

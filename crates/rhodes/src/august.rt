@@ -2,7 +2,7 @@
 ghost use mathlib.Core.Path.{_≡_};
 ghost use Prim.Native.Nat.{_≤_};
 ghost use Rattle.molad.specs.Years.{InNewYears};
-ghost use Rattle.rhodes.specs.Steps.{dayOfAugust};
+ghost use Rattle.rhodes.specs.Rhodes.{dayOfAugust};
 
 // A step, for the years 1 to 10,000: a day of August of Julian year H − 3761, counted on past 31. Day 0 of year 1's, 31
 // July −3760, is day number 347,930. A year later it is 365 days on, and one more every fourth year, −3760 being leap.

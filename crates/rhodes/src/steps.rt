@@ -2,8 +2,8 @@
 ghost use mathlib.Core.Path.{_≡_};
 ghost use Prim.Native.Nat.{_≤_};
 ghost use Rattle.molad.specs.Years.{InNewYears};
-ghost use Rattle.rhodes.specs.Steps.{lateBy};
-ghost use Rattle.rhodes.specs.Answers.{IsRoute};
+ghost use Rattle.rhodes.specs.Rhodes.{lateBy};
+ghost use Rattle.rhodes.specs.Steps.{IsRoute};
 
 pub struct Route {
     // n, the year's place in the cycle of 19 years.

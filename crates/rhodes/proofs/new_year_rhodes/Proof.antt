@@ -2,8 +2,9 @@ use borrow.Author.Needs.{needs}
 use native.Mathlib.Omega.{arith}
 use Rattle.laws.proofs.Tests.{within}
 use Rattle.molad.specs.Years.{lastNewYear, InNewYears}
-use Rattle.rhodes.specs.Steps.{rhodesNewYear, rhodesMoladDay, rhodesMoladTime}
-use Rattle.rhodes.specs.Answers.{rhodesAnswer, routeOf}
+use Rattle.rhodes.specs.Rhodes.{rhodesNewYear, rhodesMoladDay, rhodesMoladTime}
+use Rattle.rhodes.specs.Answers.{rhodesAnswer}
+use Rattle.rhodes.specs.Steps.{routeOf}
 use Rattle.rhodes.proofs.new_year_rhodes.Statement.{statement}
 use Rattle.rhodes.proofs.new_year_rhodes.Tie as tie
 

@@ -3,8 +3,8 @@ use borrow.Author.Needs.{needs}
 use mathlib.Core.Path.{_≡_}
 use mathlib.Core.Bool.{or-false}
 use lib.Dec.{eqb}
-use Rattle.rhodes.specs.Steps.{lateBy, mondayLine, tuesdayLine}
-use Rattle.rhodes.proofs.Late.{at-most-two}
+use Rattle.rhodes.specs.Rhodes.{lateBy, mondayLine, tuesdayLine}
+use Rattle.rhodes.proofs.Late.{late-at-most-two}
 use Rattle.rhodes.proofs.steps.late_by.Statement.{statement}
 use Rattle.rhodes.proofs.steps.late_by.Tie as tie
 
@@ -14,7 +14,7 @@ same c = let e = or-false (eqb (c .before .before .before .args .weekday) 6) in 
 
 returns : tie.Need-returns
 returns c =
-    let a = c .before .before .before .args in (same c, rw (same c) (at-most-two (a .place) (a .weekday) (a .part)))
+    let a = c .before .before .before .args in (same c, rw (same c) (late-at-most-two (a .place) (a .weekday) (a .part)))
 
 pub late-by-spec : {M : Type 1} → statement M
 late-by-spec = tie.close (tie.spec (search needs) (search needs) (search needs) returns)

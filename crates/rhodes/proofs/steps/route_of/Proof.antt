@@ -3,8 +3,8 @@ use borrow.Author.Needs.{needs}
 use Prim.Native.Nat.{_+_}
 use native.Mathlib.Omega.{arith}
 use Rattle.laws.proofs.Tests.{cond-le}
-use Rattle.rhodes.specs.Steps.{place, sinceLeap, distance, moladAugust, moladPart, pastNoon, noonAugust, noonPart, weekdayOfAugust, delayOf}
-use Rattle.rhodes.specs.Answers.{routeOf}
+use Rattle.rhodes.specs.Rhodes.{place, sinceLeap, distance, moladAugust, moladPart, pastNoon, noonAugust, noonPart, weekdayOfAugust, delayOf}
+use Rattle.rhodes.specs.Steps.{routeOf}
 use Rattle.rhodes.proofs.Late.{noon-part}
 use Rattle.rhodes.proofs.steps.route_of.Statement.{statement}
 use Rattle.rhodes.proofs.steps.route_of.Tie as tie
