@@ -1,2 +1,3 @@
 pub mod Closed
 pub mod Answers
+pub mod InTurn
