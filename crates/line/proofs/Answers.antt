@@ -1,7 +1,7 @@
 -- What `year_on_line` promises, and that its contract leaves one answer.
 use mathlib.Core.Path.{_≡_, refl, sym, _∙_}
 use mathlib.Core.Bool.{not, false≢true}
-use mathlib.Core.List.{List, [], _∷_}
+use mathlib.Core.List.{List, [], _∷_, _++_}
 use Prim.Native.Nat.{ℕ, _≤_}
 use native.Mathlib.Omega.{arith}
 use borrow.Author.Tests.{not-true, not-false}
@@ -35,6 +35,13 @@ year-on-line-promised input =
     let line = firstLine input in
     asks (record { refusal = 1; year = 0 }) (either (ranged 1 5 (length line)) (figures-caught line)) (omega arith) refl refl (λ _.
     answered refl refl)
+
+-- An example: "5762", with and without a line feed.
+pub year-5762 :
+    let line : List ℕ = 53 ∷ 55 ∷ 54 ∷ 50 ∷ [] in
+    (lineAnswer line ≡ record { refusal = 0; year = 5762 }) × (lineAnswer (line ++ 10 ∷ []) ≡ record { refusal = 0; year = 5762 })
+unfolding lineAnswer lineOf firstLine eachOf decimal
+year-5762 = (refl, refl)
 
 pub year-on-line-one : (input : List ℕ) (r s : LineAnswer) → r ≡ lineAnswer input → s ≡ lineAnswer input → r ≡ s
 year-on-line-one input = one-result (lineAnswer input)

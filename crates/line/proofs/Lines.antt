@@ -1,17 +1,19 @@
 -- Lines and figures: the first line as a part of the input, one more figure, and how large a number figures make.
 use mathlib.Core.Path.{_≡_, refl, sym, ap, _∙_}
-use mathlib.Core.Bool.{Bool, true, false, cond}
+use mathlib.Core.Bool.{Bool, true, false, cond, false≢true}
 use mathlib.Core.List.{List, [], _∷_, _++_}
+use mathlib.Core.Logic.{by-cases}
 use Prim.Native.Nat.{ℕ, zero, suc, _+_, _*_, _-_, _^_, _≤_, _<_}
 use native.Mathlib.Nat.{mul-assoc, pow-suc, pow-le-pow-right}
 use native.Mathlib.Numerals.{add-one}
 use native.Mathlib.Omega.{arith}
-use borrow.Author.Tests.{not-true, le-ltb}
+use native.Mathlib.Decide.{ℕ-discrete}
+use borrow.Author.Tests.{not-true, le-ltb, ne-eqb}
 use lib.Dec.{eqb, lit<}
 use lib.ListN.{length, take, length-append}
 use Rattle.bytes.specs.Bytes.{indexOf, indexAfter}
-use Rattle.laws.specs.Runs.{eachOf}
-use Rattle.laws.proofs.Tests.{within, and-left, and-right}
+use Rattle.laws.specs.Runs.{eachOf, elem}
+use Rattle.laws.proofs.Tests.{within, and-left, and-right, or-left, or-right}
 use Rattle.line.specs.Line.{firstLine, figure, AllFigures, decimal}
 
 -- The first line ends where the first line feed stands.
@@ -24,6 +26,15 @@ pub to-line-feed : (input : List ℕ) → take (indexOf 10 input) input ≡ firs
 unfolding indexOf firstLine
 to-line-feed [] = refl
 to-line-feed (byte ∷ rest) = taken (eqb byte 10) byte (indexOf 10 rest) rest (firstLine rest) (to-line-feed rest)
+
+-- The first line is what stands before the first line feed, or all if there is none.
+pub first-line-is : (line rest : List ℕ) → elem 10 line ≡ false → (firstLine line ≡ line) × (firstLine (line ++ 10 ∷ rest) ≡ line)
+unfolding firstLine
+first-line-is [] rest e = (refl, refl)
+first-line-is (x ∷ line) rest e =
+    by-cases (ℕ-discrete x 10)
+    (λ q. absurd (false≢true (sym (rw q at (or-left (eqb 10 x) _ e)))))
+    (λ q. let i = first-line-is line rest (or-right (eqb 10 x) _ e) in rw (ne-eqb x 10 q, i .0, i .1) (refl, refl))
 
 -- Each byte of a line of figures is a figure, and a line whose bytes all are is one of figures.
 pub figure-at : (l : List ℕ) → eachOf l figure ≡ true → AllFigures l
@@ -38,6 +49,10 @@ all-figures [] f = refl
 all-figures (x ∷ l) f =
     let this = f 0 (omega arith) in
     rw (le-ltb x 48 (this .0), le-ltb 57 x (this .1)) (all-figures l (λ i h. f (suc i) (omega arith)))
+
+pub decimal-none : decimal [] ≡ 0
+unfolding decimal
+decimal-none = refl
 
 -- One figure more makes the number tenfold and adds what the figure stands for.
 pub decimal-more : (l : List ℕ) (byte : ℕ) → decimal (l ++ (byte ∷ [])) ≡ decimal l * 10 + (byte - 48)
