@@ -1,7 +1,7 @@
 -- What `month_length`, `hebrew_to_day` and `day_to_hebrew` promise; and that each contract leaves one answer, and each
 -- step one result.
 use mathlib.Core.Path.{_≡_, refl}
-use mathlib.Core.List.{[], _∷_}
+use mathlib.Core.List.{List, [], _∷_}
 use Prim.Native.Nat.{ℕ, _+_, _-_, _≤_}
 use native.Mathlib.Omega.{arith}
 use Rattle.laws.specs.Promise.{_else_, Promised}
@@ -22,29 +22,43 @@ use Rattle.hebrew.specs.declared.HebrewDate.{HebrewDate}
 use Rattle.hebrew.specs.declared.date.YearDate.{YearDate}
 use Rattle.hebrew.proofs.Dates.{date-good, date-day}
 
-pub month-promised :
+-- The months from Tishri to Elul in a year of each length.
+pub month-table :
+    let months : ℕ → List ℕ = λ len.
+    monthLength len 1 ∷ monthLength len 2 ∷ monthLength len 3 ∷ monthLength len 4 ∷ monthLength len 5 ∷ monthLength len 6 ∷ monthLength len 7
+    ∷ monthLength len 8 ∷ monthLength len 9 ∷ monthLength len 10 ∷ monthLength len 11 ∷ monthLength len 12 ∷ monthLength len 13 ∷ [] in
+    ((months 353 ≡ 30 ∷ 29 ∷ 29 ∷ 29 ∷ 30 ∷ 0 ∷ 29 ∷ 30 ∷ 29 ∷ 30 ∷ 29 ∷ 30 ∷ 29 ∷ [])
+    × ((months 354 ≡ 30 ∷ 29 ∷ 30 ∷ 29 ∷ 30 ∷ 0 ∷ 29 ∷ 30 ∷ 29 ∷ 30 ∷ 29 ∷ 30 ∷ 29 ∷ [])
+    × (months 355 ≡ 30 ∷ 30 ∷ 30 ∷ 29 ∷ 30 ∷ 0 ∷ 29 ∷ 30 ∷ 29 ∷ 30 ∷ 29 ∷ 30 ∷ 29 ∷ [])))
+    × ((months 383 ≡ 30 ∷ 29 ∷ 29 ∷ 29 ∷ 30 ∷ 30 ∷ 29 ∷ 30 ∷ 29 ∷ 30 ∷ 29 ∷ 30 ∷ 29 ∷ [])
+    × ((months 384 ≡ 30 ∷ 29 ∷ 30 ∷ 29 ∷ 30 ∷ 30 ∷ 29 ∷ 30 ∷ 29 ∷ 30 ∷ 29 ∷ 30 ∷ 29 ∷ [])
+    × (months 385 ≡ 30 ∷ 30 ∷ 30 ∷ 29 ∷ 30 ∷ 30 ∷ 29 ∷ 30 ∷ 29 ∷ 30 ∷ 29 ∷ 30 ∷ 29 ∷ [])))
+unfolding monthLength
+month-table = ((refl, (refl, refl)), (refl, (refl, refl)))
+
+pub month-length-promised :
     (h code : ℕ) →
     Promised (λ (r : MonthAnswer). r .refusal) (InYears h else 1 ∷ IsMonth (leap h) code else 2 ∷ [])
     (λ r. r .days ≡ monthLength (yearLength h) code) (λ n r. r .days ≡ 0) (monthAnswer h code)
 unfolding monthAnswer
-month-promised h code =
+month-length-promised h code =
     asks (record { refusal = 1; days = 0 }) (ranged 1 lastYear h) (omega arith) refl refl (λ _.
     asks (record { refusal = 2; days = 0 }) (months-caught (leap h) code) (omega arith) refl refl (λ _. answered refl refl))
 
 -- A date is answered with a day exactly if it is good, and with its own.
-pub day-promised :
+pub hebrew-to-day-promised :
     (h code d : ℕ) →
     Promised (λ (r : HebrewDay). r .refusal)
     (InYears h else 1 ∷ IsMonth (leap h) code else 2 ∷ ((1 ≤ d) × (d ≤ monthLength (yearLength h) code)) else 3 ∷ [])
     (λ r. r .day ≡ dayNumber (record { year = h; month = code; day = d })) (λ n r. r .day ≡ 0) (hebrewDay h code d)
 unfolding hebrewDay
-day-promised h code d =
+hebrew-to-day-promised h code d =
     asks (noDay 1) (ranged 1 lastYear h) (omega arith) refl refl (λ _.
     asks (noDay 2) (months-caught (leap h) code) (omega arith) refl refl (λ _.
     asks (noDay 3) (ranged 1 (monthLength (yearLength h) code) d) (omega arith) refl refl (λ _. answered refl refl)))
 
 -- A day is answered with its good date, and with its year's New Year and length and the day of the year, from 1.
-pub date-promised :
+pub day-to-hebrew-promised :
     (j : ℕ) →
     Promised (λ (r : HebrewDate). r .refusal) (InRange j else 4 ∷ [])
     (λ r.
@@ -56,7 +70,7 @@ pub date-promised :
     × ((r .month ≡ 0) × ((r .day ≡ 0) × ((r .«new_year» ≡ 0) × ((r .length ≡ 0) × (r .«day_of_year» ≡ 0))))))
     (hebrewDate j)
 unfolding hebrewDate
-date-promised j =
+day-to-hebrew-promised j =
     asks (noDate 4) (ranged firstDay lastDay j) (omega arith) refl (refl, (refl, (refl, (refl, (refl, refl))))) (λ i.
     answered refl ((date-good j (i .0) (i .1), date-day j (i .0) (i .1)), (refl, (refl, refl))))
 

@@ -13,12 +13,12 @@ use Rattle.hebrew.specs.Dates.{Date, GoodHebrewDate, dayNumber, dateOf}
 use Rattle.hebrew.specs.Answers.{hebrewDay, hebrewDate, dated}
 use Rattle.hebrew.specs.declared.HebrewDay.{HebrewDay}
 use Rattle.hebrew.proofs.Dates.{date-good, date-day, date-back, day-in-range}
-use Rattle.hebrew.proofs.Answers.{day-promised}
+use Rattle.hebrew.proofs.Answers.{hebrew-to-day-promised}
 
 -- A good date is answered with its day.
 pub good-answered : (x : Date) → GoodHebrewDate x → hebrewDay (x .year) (x .month) (x .day) ≡ record { refusal = 0; day = dayNumber x }
 good-answered x g =
-    let p = day-promised (x .year) (x .month) (x .day) in
+    let p = hebrew-to-day-promised (x .year) (x .month) (x .day) in
     λ i. record {
       refusal = p .done .1 (g .of-years, (g .of-year, (g .of-month, tt))) i;
       day = p .values (g .of-years, (g .of-year, (g .of-month, tt))) i;
@@ -27,7 +27,7 @@ good-answered x g =
 -- And only a good date is.
 pub answered-good : (h code d : ℕ) → hebrewDay h code d .refusal ≡ 0 → GoodHebrewDate (record { year = h; month = code; day = d })
 answered-good h code d e =
-    let met = day-promised h code d .done .0 e in
+    let met = hebrew-to-day-promised h code d .done .0 e in
     record { of-years = met .0; of-year = met .1 .0; of-month = met .1 .1 .0 }
 
 -- The date that is answered for a day, asked for, gives the day.

@@ -19,7 +19,7 @@ use Rattle.hebrew.specs.Steps.{yearDate, tomorrow}
 use Rattle.hebrew.specs.declared.date.YearDate.{YearDate}
 use Rattle.hebrew.proofs.Placed.{monthFrom, month-from, month-is, months-whole, sums-row, sums-rise}
 
--- Elul is not left.
+-- No month comes after Elul.
 elul-on : (len x : ℕ) → daysBefore len 13 ≤ x → monthOf len x ≡ 13
 unfolding monthOf
 elul-on len x l =

@@ -11,8 +11,8 @@ use Rattle.hebrew.specs.declared.date.YearDate.{YearDate}
 unfoldable pub yearDate : ℕ → ℕ → YearDate
 yearDate len x = record { after = x; month = monthOf len x; day = x - daysBefore len (monthOf len x) + 1 }
 
--- The next day's date: in the same month, or the first of the next, which after Shevat of a common year is code 7. Elul
--- is not left.
+-- The next day's date: in the same month, or the first of the next, which after Shevat of a common year is code 7. No
+-- month comes after Elul.
 unfoldable pub tomorrow : ℕ → YearDate → YearDate
 tomorrow len date =
     cond (ltb (date .day) (monthLength len (date .month)) || leb 13 (date .month))

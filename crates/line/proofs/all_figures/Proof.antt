@@ -1,4 +1,4 @@
--- What has been passed is figures, so all are exactly if what is left is.
+-- What has been passed is figures, so all are exactly if the rest is.
 use borrow.Author.Needs.{needs}
 use mathlib.Core.Path.{_≡_, refl, _∙_}
 use mathlib.Core.Bool.{true, false}
