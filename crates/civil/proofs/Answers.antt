@@ -6,8 +6,9 @@ use Prim.Native.Nat.{ℕ, _≤_}
 use native.Mathlib.Omega.{arith}
 use borrow.Author.Tests.{not-true, not-false}
 use lib.IntN.{ℤ}
+use Rattle.laws.specs.Promise.{Smallest}
 use Rattle.laws.proofs.One.{one-result}
-use Rattle.laws.proofs.Promises.{Catches, ranged, asks, answered}
+use Rattle.laws.proofs.Promises.{Catches, ranged, asks, answered, smallest}
 use Rattle.days.specs.Range.{firstDay, lastDay}
 use Rattle.civil.specs.Signed.{InCivilYears, covered, raised, lowered, JulianLeapYear, GregorianLeapYear}
 use Rattle.civil.specs.Calendar.{Calendar, julian, gregorian, monthDays, dayOf}
@@ -73,6 +74,13 @@ day-to-julian-promised = date-promised julian JulianLeapYear julian-leap-year ju
 
 pub day-to-gregorian-promised : (j : ℕ) → PromisedDate gregorian GregorianLeapYear j (civilDate gregorian j)
 day-to-gregorian-promised = date-promised gregorian GregorianLeapYear gregorian-leap-year gregorian-covers
+
+-- Of the refusals of both, the smallest.
+pub julian-to-day-smallest : (y : ℤ) (m d : ℕ) → Smallest (julian-to-day-promised y m d)
+julian-to-day-smallest y m d = smallest (julian-to-day-promised y m d) (omega arith, (omega arith, (omega arith, (omega arith, tt))))
+
+pub gregorian-to-day-smallest : (y : ℤ) (m d : ℕ) → Smallest (gregorian-to-day-promised y m d)
+gregorian-to-day-smallest y m d = smallest (gregorian-to-day-promised y m d) (omega arith, (omega arith, (omega arith, (omega arith, tt))))
 
 -- Any two results that a public contract allows are equal.
 pub julian-day-one : (y : ℤ) (m d : ℕ) (r s : CivilDay) → r ≡ civilDay julian y m d → s ≡ civilDay julian y m d → r ≡ s

@@ -4,9 +4,9 @@ use mathlib.Core.Path.{_≡_, refl}
 use mathlib.Core.List.{List, [], _∷_}
 use Prim.Native.Nat.{ℕ, _+_, _-_, _≤_}
 use native.Mathlib.Omega.{arith}
-use Rattle.laws.specs.Promise.{_else_, Promised}
+use Rattle.laws.specs.Promise.{_else_, Promised, Smallest}
 use Rattle.laws.proofs.One.{one-result}
-use Rattle.laws.proofs.Promises.{ranged, asks, answered}
+use Rattle.laws.proofs.Promises.{ranged, asks, answered, smallest}
 use Rattle.days.specs.Range.{firstDay, lastDay, InRange}
 use Rattle.molad.specs.Years.{lastYear, InYears, leap}
 use Rattle.molad.specs.Molad.{IsMonth}
@@ -56,6 +56,13 @@ hebrew-to-day-promised h code d =
     asks (noDay 1) (ranged 1 lastYear h) (omega arith) refl refl (λ _.
     asks (noDay 2) (months-caught (leap h) code) (omega arith) refl refl (λ _.
     asks (noDay 3) (ranged 1 (monthLength (yearLength h) code) d) (omega arith) refl refl (λ _. answered refl refl)))
+
+-- Of the refusals of both, the smallest.
+pub month-length-smallest : (h code : ℕ) → Smallest (month-length-promised h code)
+month-length-smallest h code = smallest (month-length-promised h code) (omega arith, (omega arith, tt))
+
+pub hebrew-to-day-smallest : (h code d : ℕ) → Smallest (hebrew-to-day-promised h code d)
+hebrew-to-day-smallest h code d = smallest (hebrew-to-day-promised h code d) (omega arith, (omega arith, (omega arith, tt)))
 
 -- A day is answered with its good date, and with its year's New Year and length and the day of the year, from 1.
 pub day-to-hebrew-promised :

@@ -2,12 +2,13 @@
 use mathlib.Core.Path.{_≡_, refl, sym, _∙_}
 use mathlib.Core.Bool.{Bool, true, false, _||_, cond, false≢true}
 use mathlib.Core.List.{List, [], _∷_}
-use mathlib.Core.Logic.{_⊎_, inl, inr, ⊎-elim}
+use mathlib.Core.Logic.{_⊎_, inl, inr, ⊎-elim, by-cases}
 use Prim.Native.Nat.{ℕ, _≤_}
 use native.Mathlib.Omega.{arith}
+use native.Mathlib.Decide.{decLe}
 use borrow.Author.Tests.{le-ltb}
 use Rattle.laws.specs.Runs.{outside}
-use Rattle.laws.specs.Promise.{Asked, FirstUnmet, Unmet, Rising, Promised}
+use Rattle.laws.specs.Promise.{Asked, FirstUnmet, Unmet, Rising, Promised, Smallest}
 use Rattle.laws.proofs.Tests.{within}
 
 -- A test that catches what is not met.
@@ -85,10 +86,18 @@ not-below [] m n r u = absurd u
 not-below (a ∷ asked) m n r u =
     ⊎-elim (λ v. omega (arith, r .0, v .1)) (λ v. omega (arith, r .0, not-below asked (a .refusal) n (r .1) v)) u
 
-pub smallest : (asked : List Asked) (m n k : ℕ) → Rising m asked → FirstUnmet asked n → Unmet asked k → n ≤ k
-smallest [] m n k r f u = absurd f
-smallest (a ∷ asked) m n k r f u =
+first-smallest : (asked : List Asked) (m n k : ℕ) → Rising m asked → FirstUnmet asked n → Unmet asked k → n ≤ k
+first-smallest [] m n k r f u = absurd f
+first-smallest (a ∷ asked) m n k r f u =
     ⊎-elim
     (λ g. ⊎-elim (λ v. omega (arith, g .1, v .1)) (λ v. omega (arith, g .1, not-below asked (a .refusal) k (r .1) v)) u)
-    (λ g. ⊎-elim (λ v. absurd (v .0 (g .0))) (λ v. smallest asked (a .refusal) n k (r .1) (g .1) v) u)
+    (λ g. ⊎-elim (λ v. absurd (v .0 (g .0))) (λ v. first-smallest asked (a .refusal) n k (r .1) (g .1) v) u)
     f
+
+pub smallest :
+    {A : Type 0} {number : A → ℕ} {asked : List Asked} {Values : A → Type 0} {Besides : ℕ → A → Type 0} {r : A}
+    (p : Promised number asked Values Besides r) → Rising 1 asked → Smallest p
+smallest {number} {asked} {r} p rising k u =
+    by-cases (decLe 1 (number r))
+    (λ l. first-smallest asked 1 (number r) k rising (p .refused (number r) l .0 refl) u)
+    (λ l. omega arith)

@@ -40,3 +40,7 @@ pub record Promised {A : Type 0} (number : A → ℕ) (asked : List Asked) (Valu
   pub values : AllMet asked → Values r
   pub refused : (n : ℕ) → 1 ≤ n → (number r ≡ n) ↔ FirstUnmet asked n
   pub besides : (n : ℕ) → FirstUnmet asked n → Besides n r
+
+-- Where several are not met the answer has the smallest of their numbers.
+abbrev pub Smallest : {A : Type 0} {number : A → ℕ} {asked : List Asked} {Values : A → Type 0} {Besides : ℕ → A → Type 0} {r : A} → Promised number asked Values Besides r → Type 0
+Smallest {number} {asked} {r} p = (k : ℕ) → Unmet asked k → number r ≤ k

@@ -6,10 +6,10 @@ use Prim.Native.Nat.{ℕ, _/_, _%_, _≤_}
 use native.Mathlib.Omega.{arith}
 use borrow.Author.Tests.{eqb-true, eq-eqb}
 use lib.Dec.{eqb}
-use Rattle.laws.specs.Promise.{_else_, Promised}
+use Rattle.laws.specs.Promise.{_else_, Promised, Smallest}
 use Rattle.laws.proofs.One.{one-result}
 use Rattle.laws.proofs.Tests.{and-left}
-use Rattle.laws.proofs.Promises.{Catches, ranged, either, asks, answered}
+use Rattle.laws.proofs.Promises.{Catches, ranged, either, asks, answered, smallest}
 use Rattle.molad.specs.Years.{leap, lastYear, InYears}
 use Rattle.molad.specs.Molad.{IsMonth, noMonth, moladDay, moladTime}
 use Rattle.molad.specs.Answers.{noMolad, moladAnswer}
@@ -45,6 +45,9 @@ molad-promised h code =
     asks (noMolad 1) (ranged 1 lastYear h) (omega arith) refl (refl, (refl, refl)) (λ _.
     asks (noMolad 2) (months-caught (leap h) code) (omega arith) refl (refl, (refl, refl)) (λ _.
     answered refl ((refl, (refl, refl)), omega arith)))
+
+pub molad-smallest : (h code : ℕ) → Smallest (molad-promised h code)
+molad-smallest h code = smallest (molad-promised h code) (omega arith, (omega arith, tt))
 
 -- One answer, and one result of each step.
 pub molad-one : (h code : ℕ) (r s : MoladAnswer) → r ≡ moladAnswer h code → s ≡ moladAnswer h code → r ≡ s

@@ -3,9 +3,9 @@ use mathlib.Core.Path.{_≡_, refl}
 use mathlib.Core.List.{[], _∷_}
 use Prim.Native.Nat.{ℕ, _+_, _-_, _/_, _%_, _≤_}
 use native.Mathlib.Omega.{arith}
-use Rattle.laws.specs.Promise.{_else_, Promised}
+use Rattle.laws.specs.Promise.{_else_, Promised, Smallest}
 use Rattle.laws.proofs.One.{one-result}
-use Rattle.laws.proofs.Promises.{ranged, asks, answered}
+use Rattle.laws.proofs.Promises.{ranged, asks, answered, smallest}
 use Rattle.molad.specs.Years.{leap, lastYear, InYears}
 use Rattle.molad.specs.Molad.{IsMonth, moladDay, moladTime}
 use Rattle.molad.proofs.Answers.{months-caught}
@@ -28,6 +28,9 @@ notice-promised h code =
     asks (noNotice 1) (ranged 1 lastYear h) (omega arith) refl (refl, (refl, (refl, (refl, refl)))) (λ _.
     asks (noNotice 2) (months-caught (leap h) code) (omega arith) refl (refl, (refl, (refl, (refl, refl)))) (λ _.
     answered refl ((refl, refl), ((refl, (refl, refl)), omega arith))))
+
+pub notice-smallest : (h code : ℕ) → Smallest (notice-promised h code)
+notice-smallest h code = smallest (notice-promised h code) (omega arith, (omega arith, tt))
 
 pub notice-one : (h code : ℕ) (r s : NoticeAnswer) → r ≡ noticeAnswer h code → s ≡ noticeAnswer h code → r ≡ s
 notice-one h code = one-result (noticeAnswer h code)

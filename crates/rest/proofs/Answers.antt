@@ -9,11 +9,11 @@ use native.Mathlib.Omega.{arith}
 use borrow.Author.Tests.{ltb-true, ltb-false}
 use lib.Dec.{eqb, ltb}
 use lib.ListN.{length, take, drop}
-use Rattle.laws.specs.Promise.{_else_, Promised}
+use Rattle.laws.specs.Promise.{_else_, Promised, Smallest}
 use Rattle.laws.specs.Buffer.{Lent, overwrite}
 use Rattle.laws.proofs.One.{one-result}
 use Rattle.laws.proofs.Stores.{list-written}
-use Rattle.laws.proofs.Promises.{Catches, ranged, asks, answered}
+use Rattle.laws.proofs.Promises.{Catches, ranged, asks, answered, smallest}
 use Rattle.molad.specs.Years.{lastYear, InYears, outOfYears}
 use Rattle.hebrew.specs.Dates.{dayNumber}
 use Rattle.rest.specs.Table.{restTable, restDays}
@@ -59,6 +59,9 @@ pub rest-days-promised :
     (λ r. r .count ≡ 8) (λ n r. r .count ≡ cond (eqb n 10) 8 0) (restDaysAnswer restTable h buffer)
 unfolding restDays
 rest-days-promised h buffer = list-promised h buffer (restDays restTable h) 8
+
+pub rest-days-smallest : (h : ℕ) (buffer : List ℕ) → Smallest (rest-days-promised h buffer)
+rest-days-smallest h buffer = smallest (rest-days-promised h buffer) (omega arith, (omega arith, tt))
 
 pub rest-days-lent : (h : ℕ) (buffer : List ℕ) → Lent (restDaysAnswer restTable h buffer .refusal) (restDays restTable h) buffer (restDaysBuffer restTable h buffer)
 rest-days-lent h buffer = list-lent h buffer (restDays restTable h) (length (restDays restTable h))

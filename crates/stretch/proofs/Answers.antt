@@ -12,11 +12,12 @@ use lib.Dec.{ltb}
 use lib.IntN.{pos, negsuc, subℕ}
 use lib.Signed.{_≤ℤ_}
 use lib.ListN.{length, take}
+use Rattle.laws.specs.Promise.{Smallest}
 use Rattle.laws.specs.Buffer.{Lent}
 use Rattle.laws.proofs.One.{one-result}
 use Rattle.laws.proofs.Signed.{minus}
 use Rattle.laws.proofs.Stores.{list-written}
-use Rattle.laws.proofs.Promises.{Catches, ranged, asks, answered}
+use Rattle.laws.proofs.Promises.{Catches, ranged, asks, answered, smallest}
 use Rattle.days.specs.Range.{firstDay, lastDay, InRange}
 use Rattle.rest.specs.Table.{restTable}
 use Rattle.rest.specs.Check.{passes}
@@ -88,6 +89,12 @@ stretch-promised = stretch-told restTable table-passes
 
 pub stretches-promised : (h : ℕ) (buffer : List ℕ) → PromisedStretches restTable h buffer (stretchesAnswer restTable h buffer)
 stretches-promised = stretches-told restTable table-passes
+
+pub stretch-smallest : (j : ℕ) → Smallest (stretch-promised j)
+stretch-smallest j = smallest (stretch-promised j) (omega arith, (omega arith, tt))
+
+pub stretches-smallest : (h : ℕ) (buffer : List ℕ) → Smallest (stretches-promised h buffer)
+stretches-smallest h buffer = smallest (stretches-promised h buffer) (omega arith, (omega arith, tt))
 
 -- One answer, and one state of the buffer.
 pub stretch-one : (j : ℕ) (r s : StretchAnswer) → r ≡ stretchAnswer restTable j → s ≡ stretchAnswer restTable j → r ≡ s
