@@ -7,10 +7,10 @@ use Prim.Native.Nat.{ℕ, _+_, _-_, _*_, _/_, _≤_}
 use native.Mathlib.Omega.{arith}
 use lib.IntN.{ℤ, pos, negsuc}
 use Rattle.days.specs.Range.{firstDay, lastDay, outOfRange}
-use Rattle.civil.specs.Calendar.{julian, gregorian, julianLeap, gregorianLeap, monthDays, daysBefore, firstRaised, lastRaised, divisible, dayOf}
+use Rattle.civil.specs.Calendar.{Calendar, julian, gregorian, julianLeap, gregorianLeap, monthDays, daysBefore, firstRaised, lastRaised, divisible, dayOf}
 use Rattle.civil.specs.Date.{Date, dateOf}
 use Rattle.civil.specs.Good.{day, GoodCivilDate, OneDate}
-use Rattle.civil.specs.Answers.{civilDay, civilDate}
+use Rattle.civil.specs.Answers.{noDay, civilDay, civilDate}
 use Rattle.civil.proofs.Years.{fourth}
 use Rattle.civil.proofs.Dates.{only-date, one-date, comes-back}
 use Rattle.civil.proofs.RoundTrips.{there-and-back, back-and-there}
@@ -94,6 +94,12 @@ gregorian-first-answer = rw gregorian-first-date
 pub gregorian-last-answer : civilDate gregorian lastDay ≡ record { refusal = 0; year = pos 6239; month = 9; day = 25 }
 unfolding civilDate
 gregorian-last-answer = rw gregorian-last-date
+
+-- Their years are the first and the last: those next to them are refused.
+pub years-end :
+    (cal : Calendar) (m d : ℕ) → (civilDay cal (negsuc 3760) m d ≡ noDay 5) × (civilDay cal (pos 6240) m d ≡ noDay 5)
+unfolding civilDay
+years-end cal m d = (refl, refl)
 
 -- Day d of August, counted on past 31, of the Julian year h − 3761.
 august-start : (leap : Bool) → daysBefore leap 8 ≡ 212 + cond leap 1 0
