@@ -58,6 +58,24 @@ one-row false x y = none
 only-row : (f c x y : ℕ) → Listed f c (x ∷ y ∷ []) → (f ≡ x) × (c ≡ y)
 only-row f c x y here = (refl, refl)
 
+-- Each first day lies below n.
+abbrev Below : ℕ → List ℕ → Type 0
+Below n [] = Unit {0}
+Below n (f ∷ []) = ⊥
+Below n (f ∷ c ∷ l) = (f < n) × Below n l
+
+rising-more : {l : List ℕ} (from n c : ℕ) → Pairs l → from ≤ n → FirstDaysRise from l → Below n l → FirstDaysRise from (l ++ (n ∷ c ∷ []))
+rising-more from n c none p r b = (p, tt)
+rising-more from n c (more q) p r b = (r .0, rising-more _ n c q (omega (arith, b .0)) (r .1) (b .1))
+
+below-more : {l : List ℕ} (n m c : ℕ) → Pairs l → n < m → Below n l → Below m (l ++ (n ∷ c ∷ []))
+below-more n m c none p b = (p, tt)
+below-more n m c (more q) p b = (omega (arith, b .0), below-more n m c q p (b .1))
+
+below-later : {l : List ℕ} (n m : ℕ) → Pairs l → n ≤ m → Below n l → Below m l
+below-later n m none p b = tt
+below-later n m (more q) p b = (omega (arith, b .0), below-later n m q p (b .1))
+
 module _ (table : List ℕ) (ok : passes table ≡ true) where
   abbrev rest : ℕ → Bool
   rest = restDay table
@@ -111,50 +129,31 @@ module _ (table : List ℕ) (ok : passes table ≡ true) where
       (λ x. let m = made (j + k) f c x in (m .0, omega (arith, m .1)))
       (in-either (rowAt rest (j + k)) (in-pairs j k) r)
 
--- Rising.
-abbrev Below : ℕ → List ℕ → Type 0
-Below n [] = Unit {0}
-Below n (f ∷ []) = ⊥
-Below n (f ∷ c ∷ l) = (f < n) × Below n l
-
-rising-more : {l : List ℕ} (from n c : ℕ) → Pairs l → from ≤ n → FirstDaysRise from l → Below n l → FirstDaysRise from (l ++ (n ∷ c ∷ []))
-rising-more from n c none p r b = (p, tt)
-rising-more from n c (more q) p r b = (r .0, rising-more _ n c q (omega (arith, b .0)) (r .1) (b .1))
-
-below-more : {l : List ℕ} (n m c : ℕ) → Pairs l → n < m → Below n l → Below m (l ++ (n ∷ c ∷ []))
-below-more n m c none p b = (p, tt)
-below-more n m c (more q) p b = (omega (arith, b .0), below-more n m c q p (b .1))
-
-below-later : {l : List ℕ} (n m : ℕ) → Pairs l → n ≤ m → Below n l → Below m l
-below-later n m none p b = tt
-below-later n m (more q) p b = (omega (arith, b .0), below-later n m q p (b .1))
-
-module _ (table : List ℕ) (ok : passes table ≡ true) where
-  rise : (j k : ℕ) → FirstDaysRise j (rows (restDay table) j k) × Below (j + k) (rows (restDay table) j k)
+  rise : (j k : ℕ) → FirstDaysRise j (rows rest j k) × Below (j + k) (rows rest j k)
   unfolding rows rowAt
   rise j zero = (tt, tt)
-  rise j (suc k) = go (begins (restDay table) (j + k)) _ (rise j k)
+  rise j (suc k) = go (begins rest (j + k)) _ (rise j k)
     where
       l : List ℕ
-      l = rows (restDay table) j k
+      l = rows rest j k
 
       go : (b : Bool) (c : ℕ) → FirstDaysRise j l × Below (j + k) l → FirstDaysRise j (l ++ cond b ((j + k) ∷ c ∷ []) []) × Below (j + suc k) (l ++ cond b ((j + k) ∷ c ∷ []) [])
       go true c r =
-          let p = in-pairs table ok j k in
+          let p = in-pairs j k in
           (rising-more j (j + k) c p (omega arith) (r .0) (r .1), below-more (j + k) (j + suc k) c p (omega arith) (r .1))
-      go false c r = rw append-nil (r .0, below-later (j + k) (j + suc k) (in-pairs table ok j k) (omega arith) (r .1))
+      go false c r = rw append-nil (r .0, below-later (j + k) (j + suc k) (in-pairs j k) (omega arith) (r .1))
 
   pub stretches-of : (h : ℕ) → 1 ≤ h → h ≤ lastYear → StretchesOf table h (stretchRows table h)
   unfolding stretchRows yearLength
   stretches-of h l u =
       let up = rises h l (omega arith) in
       record {
-        every = λ f c r a b. holds-all table ok (newYear h) (yearLength h) f c r a (omega arith);
-        only = λ f c r. let t = holds-only table ok (newYear h) (yearLength h) f c r in (t .0, (t .1 .0, omega (arith, t .1 .1)));
+        every = λ f c r a b. holds-all (newYear h) (yearLength h) f c r a (omega arith);
+        only = λ f c r. let t = holds-only (newYear h) (yearLength h) f c r in (t .0, (t .1 .0, omega (arith, t .1 .1)));
         rising = rise (newYear h) (yearLength h) .0;
       }
 
   -- The entries come in pairs: twice the stretches.
   pub two-each : (h : ℕ) → 2 * (length (stretchRows table h) / 2) ≡ length (stretchRows table h)
   unfolding stretchRows
-  two-each h = omega (arith, even (in-pairs table ok (newYear h) (yearLength h)))
+  two-each h = omega (arith, even (in-pairs (newYear h) (yearLength h)))

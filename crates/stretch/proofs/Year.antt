@@ -28,165 +28,164 @@ shifted : (b : Bool) (a s k : ℕ) → cond b (a + s) (suc (a + k)) ≡ a + cond
 shifted true a s k = refl
 shifted false a s k = omega arith
 
-module _ (table : List ℕ) (ok : passes table ≡ true) (h : ℕ) (l : 1 ≤ h) (u : h ≤ lastYear) where
-  abbrev rest : ℕ → Bool
-  rest = restDay table
+-- A year that is covered, and a table that passes the check.
+pub record TableYear : Type 0 where
+  pub table : List ℕ
+  pub year : ℕ
+  pub ok : passes table ≡ true
+  pub low : 1 ≤ year
+  pub high : year ≤ lastYear
 
-  abbrev w : ℕ
-  w = weekday (newYear h)
+-- Its rest days, by day number and by how many days after New Year they come; and the next year's, as this one's weekday,
+-- counted on, and length tell them.
+abbrev pub rest : TableYear → ℕ → Bool
+rest y = restDay (y .table)
 
-  abbrev len : ℕ
-  len = yearLength h
+abbrev pub start : TableYear → ℕ
+start y = newYear (y .year)
 
-  abbrev pub here : ℕ → Bool
-  here = restAt table w len
+abbrev pub len : TableYear → ℕ
+len y = yearLength (y .year)
 
-  pub next-year : newYear h + len ≡ newYear (h + 1)
+abbrev pub here : TableYear → ℕ → Bool
+here y = restAt (y .table) (weekday (start y)) (len y)
+
+abbrev pub carried : TableYear → ℕ → Bool
+carried y = restAt (y .table) (weekday (start y) + len y) (len y)
+
+module _ (y : TableYear) where
+  pub next-year : start y + len y ≡ newYear (y .year + 1)
   unfolding yearLength
-  next-year = omega (arith, rises h l (omega arith))
+  next-year = omega (arith, rises (y .year) (y .low) (omega arith))
 
   -- New Year lies in the range, and so does the year.
-  bounds : (1 ≤ newYear h) × (newYear h + len ≤ lastDay + 1)
+  bounds : (1 ≤ start y) × (start y + len y ≤ lastDay + 1)
   bounds =
-      let k = length-in h l (omega arith) in
-      let first = year-in-range _ h (day-of-year h l u 0 (omega arith)) in
-      let end = year-in-range _ h (day-of-year h l u (len - 1) (omega arith)) in (omega arith, omega arith)
+      let k = length-in (y .year) (y .low) (omega arith) in
+      let first = year-in-range _ (y .year) (day-of-year (y .year) (y .low) (y .high) 0 (omega arith)) in
+      let end = year-in-range _ (y .year) (day-of-year (y .year) (y .low) (y .high) (len y - 1) (omega arith)) in (omega arith, omega arith)
 
-  pub placed : (k : ℕ) → k < len → rest (newYear h + k) ≡ here k
-  placed = rest-placed table h l u
+  pub placed : (k : ℕ) → k < len y → rest y (start y + k) ≡ here y k
+  placed = rest-placed (y .table) (y .year) (y .low) (y .high)
 
-  placed-at : (d : ℕ) → newYear h ≤ d → d < newYear h + len → rest d ≡ here (d - newYear h)
-  placed-at d a b = let e : newYear h + (d - newYear h) ≡ d = omega arith in rw e at (placed (d - newYear h) (omega arith))
+  placed-at : (d : ℕ) → start y ≤ d → d < start y + len y → rest y d ≡ here y (d - start y)
+  placed-at d a b = let e : start y + (d - start y) ≡ d = omega arith in rw e at (placed (d - start y) (omega arith))
 
   -- Where a run begins.
-  pub start-same : (k : ℕ) → k ≤ len → runStart rest (newYear h + k) ≡ newYear h + runStart here k
+  pub start-same : (k : ℕ) → k ≤ len y → runStart (rest y) (start y + k) ≡ start y + runStart (here y) k
   unfolding runStart
   start-same zero p =
-      let z : newYear h + 0 ≡ suc (newYear h - 1) = omega (arith, bounds) in
-      rw (z, eve-works table ok h l (omega arith)) (omega (arith, bounds))
+      let z : start y + 0 ≡ suc (start y - 1) = omega (arith, bounds) in
+      rw (z, eve-works (y .table) (y .ok) (y .year) (y .low) (omega arith)) (omega (arith, bounds))
   start-same (suc k) p =
-      let z : newYear h + suc k ≡ suc (newYear h + k) = omega arith in
-      rw (z, placed k (omega arith), start-same k (omega arith)) (shifted (here k) (newYear h) (runStart here k) k)
+      let z : start y + suc k ≡ suc (start y + k) = omega arith in
+      rw (z, placed k (omega arith), start-same k (omega arith)) (shifted (here y k) (start y) (runStart (here y) k) k)
 
   -- Where a run ends: before the year does, whose last day is no rest day.
-  module _ (k : ℕ) (p : k < len) where
+  module _ (k : ℕ) (p : k < len y) where
     abbrev end : ℕ
-    end = seekNot here (len - k) k
+    end = seekNot (here y) (len y - k) k
 
-    told-end : Seek (λ d. not (here d)) (len - k) k end
+    told-end : Seek (λ d. not (here y d)) (len y - k) k end
     unfolding seekNot
-    told-end = seek-tells (λ d. not (here d)) (len - k) k
+    told-end = seek-tells (λ d. not (here y d)) (len y - k) k
 
-    pub ends-early : end < len
+    pub ends-early : end < len y
     ends-early =
-        by-cases (decLt end len)
+        by-cases (decLt end (len y))
         (λ q. q)
-        (λ q. absurd (clash (here (len - 1)) (not-false _ (told-end .none (len - 1) (omega arith) (omega arith))) (last-day-works table ok h l u)))
+        (λ q. absurd (clash (here y (len y - 1)) (not-false _ (told-end .none (len y - 1) (omega arith) (omega arith))) (last-day-works (y .table) (y .ok) (y .year) (y .low) (y .high))))
 
-    ends-there : here end ≡ false
+    ends-there : here y end ≡ false
     ends-there = not-true _ (told-end .pass (omega (arith, ends-early)))
 
-    pub end-same : seekNot rest (daysFrom (newYear h + k)) (newYear h + k) ≡ newYear h + end
+    pub end-same : seekNot (rest y) (daysFrom (start y + k)) (start y + k) ≡ start y + end
     end-same =
         let e = ends-early in
-        seek-not-is rest (daysFrom (newYear h + k)) (newYear h + k) (newYear h + end)
-        (λ d a b. placed-at d (omega arith) (omega arith) ∙ not-false _ (told-end .none (d - newYear h) (omega arith) (omega arith)))
+        seek-not-is (rest y) (daysFrom (start y + k)) (start y + k) (start y + end)
+        (λ d a b. placed-at d (omega arith) (omega arith) ∙ not-false _ (told-end .none (d - start y) (omega arith) (omega arith)))
         (placed end e ∙ ends-there)
         (omega (arith, told-end .low))
         (omega (arith, bounds))
 
   -- The next rest day, or the next New Year.
-  module _ (x : ℕ) (d : x < len) where
+  module _ (x : ℕ) (d : x < len y) where
     abbrev pub next : ℕ
-    next = nextAt here len x
+    next = nextAt (here y) (len y) x
 
-    pub told : Seek here (len - x) x next
+    pub told : Seek (here y) (len y - x) x next
     unfolding nextAt
-    told = seek-tells here (len - x) x
+    told = seek-tells (here y) (len y - x) x
 
-    none-before : (k : ℕ) → newYear h + x ≤ k → k < newYear h + next → rest k ≡ false
-    none-before k a b = placed-at k (omega arith) (omega (arith, told .high)) ∙ told .none (k - newYear h) (omega arith) (omega arith)
+    none-before : (k : ℕ) → start y + x ≤ k → k < start y + next → rest y k ≡ false
+    none-before k a b = placed-at k (omega arith) (omega (arith, told .high)) ∙ told .none (k - start y) (omega arith) (omega arith)
 
-    pub rests-there : next < len → rest (newYear h + next) ≡ true
+    pub rests-there : next < len y → rest y (start y + next) ≡ true
     rests-there p = placed next p ∙ told .pass (omega arith)
 
-    pub next-is : nextRest table (newYear h + x) ≡ newYear h + next
+    pub next-is : nextRest (y .table) (start y + x) ≡ start y + next
     unfolding nextRest
     next-is =
         let e = bounds in
         let t = told in
-        by-cases (decLt next len)
-        (λ p. seek-is rest (daysFrom (newYear h + x)) (newYear h + x) (newYear h + next) none-before (rests-there p) (omega arith) (omega arith))
+        by-cases (decLt next (len y))
+        (λ p. seek-is (rest y) (daysFrom (start y + x)) (start y + x) (start y + next) none-before (rests-there p) (omega arith) (omega arith))
         (λ p.
-        let q : newYear h + next ≡ newYear (h + 1) = omega (arith, next-year) in
-        by-cases (ℕ-discrete h 9999)
+        let q : start y + next ≡ newYear (y .year + 1) = omega (arith, next-year) in
+        by-cases (ℕ-discrete (y .year) 9999)
         (λ r.
-        let f : newYear (h + 1) ≡ lastDay + 1 = rw r last in
-        let z : newYear h + x + daysFrom (newYear h + x) ≡ newYear h + next = omega arith in
-        seek-none rest (daysFrom (newYear h + x)) (newYear h + x) (λ k a b. none-before k a (omega arith)) ∙ z)
+        let f : newYear (y .year + 1) ≡ lastDay + 1 = rw r last in
+        let z : start y + x + daysFrom (start y + x) ≡ start y + next = omega arith in
+        seek-none (rest y) (daysFrom (start y + x)) (start y + x) (λ k a b. none-before k a (omega arith)) ∙ z)
         (λ r.
-        let g = new-year-rests table ok (h + 1) (omega arith) (omega arith) in
-        let i = rest-in-range table (newYear (h + 1)) g in
-        seek-is rest (daysFrom (newYear h + x)) (newYear h + x) (newYear h + next) none-before (rw q g) (omega arith) (omega arith)))
+        let g = new-year-rests (y .table) (y .ok) (y .year + 1) (omega arith) (omega arith) in
+        let i = rest-in-range (y .table) (newYear (y .year + 1)) g in
+        seek-is (rest y) (daysFrom (start y + x)) (start y + x) (start y + next) none-before (rw q g) (omega arith) (omega arith)))
 
 -- The run that the next New Year begins has at most three days, all of Tishri; so this year's length, and its weekday
 -- counted on, tell it.
-module _ (table : List ℕ) (ok : passes table ≡ true) (h : ℕ) (l : 1 ≤ h) (u : h ≤ 9998) where
-  abbrev later : ℕ
-  later = h + 1
+module _ (y : TableYear) (more : y .year ≤ 9998) where
+  abbrev later : TableYear
+  later = record { table = y .table; year = y .year + 1; ok = y .ok; low = omega arith; high = omega arith }
 
-  low : 1 ≤ later
-  low = omega arith
+  begun : 0 < len later
+  begun = let k = length-in (later .year) (later .low) (omega arith) in omega arith
 
-  high : later ≤ lastYear
-  high = omega arith
+  abbrev days : ℕ
+  days = end later 0 begun
 
-  begun : 0 < yearLength later
-  begun = let k = length-in later low (omega arith) in omega arith
+  rests : (d : ℕ) → d < days → here later d ≡ true
+  rests d p = not-false _ (told-end later 0 begun .none d (omega arith) p)
 
-  abbrev there : ℕ → Bool
-  there = here table ok later low high
-
-  abbrev count : ℕ
-  count = end table ok later low high 0 begun
-
-  rests : (d : ℕ) → d < count → there d ≡ true
-  rests d p = not-false _ (told-end table ok later low high 0 begun .none d (omega arith) p)
-
-  three : count ≤ 3
+  three : days ≤ 3
   three =
-      let early = ends-early table ok later low high 0 begun in
-      by-cases (decLt 3 count)
+      let early = ends-early later 0 begun in
+      by-cases (decLt 3 days)
       (λ p.
-      let on : (d : ℕ) → d ≤ 3 → restDay table (newYear later + d) ≡ true = λ d q. placed table ok later low high d (omega arith) ∙ rests d (omega arith) in
-      let z : newYear later + 0 ≡ newYear later = omega arith in
-      absurd (no-four table ok (newYear later) (rw z at (on 0 (omega arith))) (on 1 (omega arith)) (on 2 (omega arith)) (on 3 (omega arith))))
+      let on : (d : ℕ) → d ≤ 3 → rest y (start later + d) ≡ true = λ d q. placed later d (omega arith) ∙ rests d (omega arith) in
+      let z : start later + 0 ≡ start later = omega arith in
+      absurd (no-four (y .table) (y .ok) (start later) (rw z at (on 0 (omega arith))) (on 1 (omega arith)) (on 2 (omega arith)) (on 3 (omega arith))))
       (λ p. omega arith)
 
-  abbrev carried : ℕ → Bool
-  carried = restAt table (weekday (newYear h) + yearLength h) (yearLength h)
+  same : (d : ℕ) → d < 30 → carried y d ≡ here later d
+  same d p = tishri-alike (y .table) (weekday (start y) + len y) (weekday (start later)) (len y) (len later) d p (omega (arith, next-year y))
 
-  same : (d : ℕ) → d < 30 → carried d ≡ there d
-  same d p =
-      tishri-alike table (weekday (newYear h) + yearLength h) (weekday (newYear later)) (yearLength h) (yearLength later) d p
-      (omega (arith, next-year table ok h l (omega arith)))
-
-  end-next : seekNot carried (yearLength h) 0 ≡ count
+  end-next : seekNot (carried y) (len y) 0 ≡ days
   end-next =
-      let k = length-in h l (omega arith) in
-      seek-not-is carried (yearLength h) 0 count
+      let k = length-in (y .year) (y .low) (omega arith) in
+      seek-not-is (carried y) (len y) 0 days
       (λ d a b. same d (omega (arith, three)) ∙ rests d b)
-      (same count (omega (arith, three)) ∙ ends-there table ok later low high 0 begun)
+      (same days (omega (arith, three)) ∙ ends-there later 0 begun)
       (omega arith)
       (omega (arith, three))
 
   -- So its first day is that New Year, and this is the day after its last.
-  as-it-is : newYear later + 0 ≡ newYear later
+  as-it-is : start later + 0 ≡ start later
   as-it-is = omega arith
 
-  pub start-later : runStart (restDay table) (newYear later) ≡ newYear later
+  pub start-later : runStart (rest y) (newYear (y .year + 1)) ≡ newYear (y .year + 1)
   unfolding runStart
-  start-later = rw as-it-is at (start-same table ok later low high 0 (omega arith))
+  start-later = rw as-it-is at (start-same later 0 (omega arith))
 
-  pub end-later : seekNot (restDay table) (daysFrom (newYear later)) (newYear later) ≡ newYear later + seekNot carried (yearLength h) 0
-  end-later = rw end-next (rw as-it-is at (end-same table ok later low high 0 begun))
+  pub end-later : seekNot (rest y) (daysFrom (newYear (y .year + 1))) (newYear (y .year + 1)) ≡ newYear (y .year + 1) + seekNot (carried y) (len y) 0
+  end-later = rw end-next (rw as-it-is at (end-same later 0 begun))

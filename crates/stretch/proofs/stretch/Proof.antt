@@ -46,7 +46,7 @@ answered c =
     let x : newYear h + (j - newYear h) ≡ j = omega (arith, e .begins) in
     let d : j - newYear h < yearLength h = omega (arith, e .begins, e .days) in
     rw (c .run-for .ensures .0 .0, c .run-for .ensures .0 .1, w .weekday-of .ensures, e .begins, e .days)
-    (rw x at (worked-out restTable table-passes h (e .first) (e .last) (j - newYear h) d))
+    (rw x at (worked-out (record { table = restTable; year = h; ok = table-passes; low = e .first; high = e .last }) (j - newYear h) d))
 
 returns : tie.Need-returns
 unfolding stretchAnswer

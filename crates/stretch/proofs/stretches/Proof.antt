@@ -35,7 +35,7 @@ listed c =
     let h = y .before .before .before .args .year in
     let e = y .year-span .ensures in
     let n = c .write-rows .ensures in
-    let same = rw (← e .days, ← e .begins, ← w .weekday-of .ensures) at (stretches-same restTable table-passes h (e .first) (e .last)) in
+    let same = rw (← e .days, ← e .begins, ← w .weekday-of .ensures) at (stretches-same (record { table = restTable; year = h; ok = table-passes; low = e .first; high = e .last })) in
     let rest = restAt restTable (w .weekday-of .result) (y .year-span .result .length) in
     let rows = rowsAt rest (y .year-span .result .«new_year») (y .year-span .result .length) in
     rw (same, n .1 .1) (n .0, rw (n .0) (take-append-seam rows _))
