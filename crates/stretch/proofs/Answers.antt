@@ -45,14 +45,14 @@ module _ (table : List ℕ) (ok : passes table ≡ true) where
       record {
         passes = λ e.
             let f = stretch-for table ok j i (ltb-false _ _ e) in
-            record { first = _; count = _; a-stretch = f .a-stretch; not-over = f .not-over };
-        catches = λ e m. none-ahead table ok j i (ltb-true _ _ e) (m .first) (m .count) (m .a-stretch) (m .not-over);
+            record { first = _; days = _; a-stretch = f .a-stretch; not-over = f .not-over };
+        catches = λ e m. none-ahead table ok j i (ltb-true _ _ e) (m .first) (m .days) (m .a-stretch) (m .not-over);
       }
 
   near : (j : ℕ) → InRange j → StretchAhead table j → nextRest table j ≤ lastDay
   near j i m =
       by-cases (decLt lastDay (nextRest table j))
-      (λ p. absurd (none-ahead table ok j i p (m .first) (m .count) (m .a-stretch) (m .not-over)))
+      (λ p. absurd (none-ahead table ok j i p (m .first) (m .days) (m .a-stretch) (m .not-over)))
       (λ p. omega arith)
 
   pub stretch-told : (j : ℕ) → PromisedStretch table j (stretchAnswer table j)

@@ -151,7 +151,7 @@ module _ (table : List ℕ) (ok : passes table ≡ true) where
     pub stretch-ahead : j ≤ lastDay - 4 → StretchAhead table j
     stretch-ahead p =
         let f = stretch-for (rest-ahead p) in
-        record { first = stretchFirst table j; count = stretchPast table j - stretchFirst table j; a-stretch = f .a-stretch; not-over = f .not-over }
+        record { first = stretchFirst table j; days = stretchPast table j - stretchFirst table j; a-stretch = f .a-stretch; not-over = f .not-over }
 
     -- Where there is no rest day ahead no stretch ends on or after the day.
     pub none-ahead : lastDay < n → (f c : ℕ) → Run rest f c → j < f + c → ⊥

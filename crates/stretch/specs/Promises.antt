@@ -20,9 +20,9 @@ use Rattle.stretch.specs.declared.StretchAnswer.{StretchAnswer}
 -- A stretch in range ends on day j or later.
 pub record StretchAhead (table : List ℕ) (j : ℕ) : Type 0 where
   pub first : ℕ
-  pub count : ℕ
-  pub a-stretch : Run (restDay table) first count
-  pub not-over : j < first + count
+  pub days : ℕ
+  pub a-stretch : Run (restDay table) first days
+  pub not-over : j < first + days
 
 -- What `stretch` promises for day j.
 abbrev pub PromisedStretch : List ℕ → ℕ → StretchAnswer → Type 0
@@ -35,9 +35,9 @@ PromisedStretch table j =
     (λ n r. (r .first ≡ 0) × ((r .length ≡ 0) × (r .«days_left» ≡ pos 0)))
 
 -- Two entries each: a stretch's first day and its length stand in the list.
-pub data Listed (first count : ℕ) : List ℕ → Type 0 where
-  here : {l : List ℕ} → Listed first count (first ∷ count ∷ l)
-  there : {a b : ℕ} {l : List ℕ} → Listed first count l → Listed first count (a ∷ b ∷ l)
+pub data Listed (first days : ℕ) : List ℕ → Type 0 where
+  here : {l : List ℕ} → Listed first days (first ∷ days ∷ l)
+  there : {a b : ℕ} {l : List ℕ} → Listed first days l → Listed first days (a ∷ b ∷ l)
 
 -- Rising: each first day comes after the one before it.
 abbrev pub FirstDaysRise : ℕ → List ℕ → Type 0

@@ -8,9 +8,9 @@ use Rattle.newyear.specs.NewYear.{newYear, yearLength}
 use Rattle.rest.specs.Table.{restDay}
 
 -- Asked for a day j, the library gives the earliest stretch whose last day is that day or later.
-pub record StretchFor (table : List ℕ) (j first count : ℕ) : Type 0 where
-  pub a-stretch : Run (restDay table) first count
-  pub not-over : j < first + count
+pub record StretchFor (table : List ℕ) (j first days : ℕ) : Type 0 where
+  pub a-stretch : Run (restDay table) first days
+  pub not-over : j < first + days
   pub earliest : (f c : ℕ) → Run (restDay table) f c → j < f + c → first ≤ f
 
 -- It is found by a search; that what is found is the stretch for the day is proved.
