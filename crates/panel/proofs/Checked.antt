@@ -81,7 +81,7 @@ stretch-row :
 unfolding yearLength
 stretch-row h n next j y e f a b =
     let x : newYear h + (j - n) ≡ j = omega arith in
-    rw (x, e, f) at (worked-out restTable table-passes h (y .0) (y .1) (j - n) (omega arith))
+    rw (x, e, f) at (worked-out (record { table = restTable; year = h; ok = table-passes; low = y .0; high = y .1 }) (j - n) (omega arith))
 
 begins-5775 : newYear 5775 ≡ 2456926
 unfolding quick
