@@ -30,11 +30,18 @@ test:
 lib:
 	@tools/lib
 
-# The folders as GNU has them; PREFIX is another name for prefix. DESTDIR is put before each while installing.
+# The folders as GNU has them; PREFIX is another name for prefix. DESTDIR is put before each while installing. What is typed
+# for one is text too, whatever it holds.
 PREFIX ?= /usr/local
 prefix = $(PREFIX)
 libdir = $(prefix)/lib
 includedir = $(prefix)/include
+define folder
+ifneq ($$(filter command environment,$$(origin $(1))),)
+override $(1) := $$(value $(1))
+endif
+endef
+$(foreach name,PREFIX prefix libdir includedir DESTDIR,$(eval $(call folder,$(name))))
 VERSION := $(shell sed -n 's/^\#define BD_VERSION "\(.*\)"/\1/p' include/bournedrouth.h)
 export prefix libdir includedir DESTDIR VERSION
 

@@ -9,7 +9,8 @@
  * asks for the civil day, and from sunset on for the day after.
  *
  * The days left have a sign, and they decide: on the second and third day of a stretch they are -1 and -2, and the bank
- * stays on the load. A refusal decides nothing, and is never shown as a bank off the load.
+ * stays on the load. Of all refusals only BD_NO_STRETCH shows the bank off the load; after any other nothing is known,
+ * and nothing is shown but why.
  */
 #include <inttypes.h>
 #include <stdbool.h>
@@ -148,7 +149,9 @@ int main(int argc, char **argv)
     if (argc < 2 || argc > 4 || !read_moment(argv[1], at, sunset, &m)) {
         fprintf(stderr, "usage: panel DATE [TIME [SUNSET]]\n"
                         "DATE is a Gregorian date, as 2014-09-27 or -3760-09-07, or the word today;\n"
-                        "TIME and SUNSET are hours and minutes, as 18:52, and the sunset is after noon\n");
+                        "TIME and SUNSET are hours and minutes, as 18:52, and the sunset is after noon;\n"
+                        "without TIME it is noon, and for today the time that it is now;\n"
+                        "without SUNSET it is 18:00, the calendar's hour and not your hall's sunset\n");
         return 2;
     }
     return show(argv[1], &m);

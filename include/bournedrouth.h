@@ -14,14 +14,14 @@
  *   - The evening. No call is told the time, and the hall's sunset is the panel's own: before it ask for the number of
  *     the civil day, from sunset on for the day after, that number plus 1. A panel that changes the day at midnight is
  *     hours late, with putting the bank on the load and with taking it off.
- *   - A pointer must be real and aligned for uint64_t. Where the length given with it is 0 it may be NULL: it is proved
+ *   - A pointer must be valid and aligned for uint64_t. Where the length given with it is 0 it may be NULL: it is proved
  *     that no entry is touched then, and seen in the archive's code and tested for every year that no more is asked of
  *     the pointer.
  *   - A length must be true: at least so many numbers stand at the pointer, and nobody else uses them during the call.
  *   - Every number is passed as 64 bits. These declarations see to that. A number that was cut before it came here
  *     arrives as another number, and may be a good one.
- *   - The refusal must be looked at before the rest. It is no answer: none but BD_NO_STRETCH says that the bank is off
- *     the load.
+ *   - Look at the refusal first. Of all refusals only BD_NO_STRETCH means that the bank is off the load; after any
+ *     other, nothing is known.
  *
  * The archive is for x86-64 Linux (System V calling convention). English names are in bournedrouth_names.h.
  */
@@ -249,14 +249,15 @@ typedef struct bd_list_answer {
 bd_stretch_answer bd_stretch(uint64_t day);
 
 /*
- * Writes the day numbers of a year's eight rest days, in the table's order, and tells 8. Refusals: 1, 10. A refusal
- * leaves all entries as they were, and else those beyond the list.
+ * Writes the day numbers of a year's eight rest days, in the table's order, and tells 8. Refusals: 1, 10. A refused
+ * call leaves the whole buffer as it was; otherwise the entries beyond the list stay as they were.
  */
 bd_list_answer bd_rest_days(uint64_t year, uint64_t *out, size_t length);
 
 /*
  * Writes first day and length of each stretch that begins in a year, rising, two entries each, and tells how many
- * stretches. Refusals: 1, 10. A refusal leaves all entries as they were, and else those beyond the list.
+ * stretches. Refusals: 1, 10. A refused call leaves the whole buffer as it was; otherwise the entries beyond the list
+ * stay as they were. The call keeps 385 entries of its own, 3,080 bytes, on the stack.
  */
 bd_list_answer bd_stretches(uint64_t year, uint64_t *out, size_t length);
 

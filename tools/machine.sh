@@ -55,9 +55,11 @@ run_here() {
     fi
 }
 
-# fresh FILE: it stands, and no source is younger than it.
+# fresh FILE: it stands, no source is younger than it and, if rt is there to name its kit, that kit made it.
 fresh() {
-    [ -f "$1" ] && [ -z "$(find crates crates.txt -newer "$1" -not -path '*/must-fail*' -print -quit)" ]
+    [ -f "$1" ] && [ -z "$(find crates crates.txt -newer "$1" -not -path '*/must-fail*' -print -quit)" ] || return 1
+    command -v rt >/dev/null || return 0
+    [ -f "$1.kit" ] && [ "$(<"$1.kit")" = "$(rt version)" ]
 }
 
 # Keeps what rt says in a file, and passes its own lines on as they come: one for each crate that is proved.
@@ -69,13 +71,14 @@ follow() { # FILE
     done 3>"$1"
 }
 
-# made FILE WHAT WORD...: leaves the file, made by `rt WORD...` if it is not fresh. All that it says is on standard error.
+# made FILE WHAT WORD...: leaves the file, made by `rt WORD...` if it is not fresh, and the kit's name in FILE.kit. All that
+# it says is on standard error.
 made() {
     local file=$1 what=$2 log=target/made.log
     shift 2
     fresh "$file" && return
     need_rt
-    echo "proving and building $what, once until a source changes: one to two minutes on two cores" >&2
+    echo "proving and building $what, once until a source or the kit changes: one to two minutes on two cores" >&2
     mkdir -p target
     rt "$@" 2>&1 | follow $log || {
         cat $log >&2
@@ -83,6 +86,7 @@ made() {
     }
     [ -f "$file" ] || fail "rt $* left no $file; make clean has it begin from nothing"
     touch "$file"
+    rt version >"$file.kit"
 }
 
 # The archive of the C face.

@@ -6,7 +6,7 @@
 
 #include "walk.h"
 
-enum { FIRST = 347998, LAST = 4000075 };
+enum { FIRST = 347998, LAST = 4000075, MOST_DAYS = 385 };
 
 static unsigned char rests[LAST - FIRST + 2]; /* the day after the last is none */
 
@@ -118,7 +118,7 @@ static void hebrew_day(uint64_t day, const hebrew *h)
 /* A year's stretches, found in the days that rest, against its list. */
 static uint64_t year_lists(uint64_t year)
 {
-    uint64_t out[BD_STRETCHES_ROOM], list[BD_STRETCHES_ROOM], n = 0;
+    uint64_t out[BD_STRETCHES_ROOM], list[2 * MOST_DAYS], n = 0; /* a stretch on every day would find room */
     for (uint64_t day = new_year_of(year); day < new_year_of(year + 1); ++day) {
         if (!rests[day - FIRST]) continue;
         if (n > 0 && list[n - 2] + list[n - 1] == day) {
@@ -129,6 +129,7 @@ static uint64_t year_lists(uint64_t year)
         list[n++] = 1;
     }
     asking("bd_stretches(%" PRIu64 ", out, %d)", year, BD_STRETCHES_ROOM);
+    same("entries beyond BD_STRETCHES_ROOM", n > BD_STRETCHES_ROOM ? n - BD_STRETCHES_ROOM : 0, 0);
     bd_list_answer got = bd_stretches(year, out, BD_STRETCHES_ROOM);
     same("refusal", got.refusal, 0), same("count", got.count, n / 2);
     for (uint64_t i = 0; i < n; ++i) same("entry", out[i], list[i]);

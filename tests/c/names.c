@@ -27,18 +27,26 @@ static void weekdays(void)
     for (size_t i = 0; i < COUNT(BEYOND); ++i) same_text("no name", bd_weekday_name(BEYOND[i]), "?");
 }
 
-/* Each refusal has a name of its own. */
 static void refusals(void)
 {
+    static const char *const want[] = {
+        [BD_DONE] = "done",
+        [BD_BAD_YEAR] = "the Hebrew year is outside 1 to 9999",
+        [BD_BAD_MONTH] = "the Hebrew year has no such month",
+        [BD_BAD_DAY] = "the Hebrew month has no such day",
+        [BD_DAY_OUT_OF_RANGE] = "the day is before 1 Tishri 1 or after 29 Elul 9999",
+        [BD_BAD_CIVIL_YEAR] = "the civil year is outside -3760 to 6239",
+        [BD_BAD_CIVIL_MONTH] = "the civil year has no such month",
+        [BD_BAD_CIVIL_DAY] = "the civil month has no such day",
+        [BD_CIVIL_DATE_OUT_OF_RANGE] = "the civil date is before 1 Tishri 1 or after 29 Elul 9999",
+        [BD_NO_STRETCH] = "no stretch of rest days is left in the calendar's range",
+        [BD_BUFFER_TOO_SHORT] = "the buffer is too short for the list",
+    };
     asking("the refusals");
-    same_text("name", bd_refusal_name(BD_DONE), "done");
-    same_text("name", bd_refusal_name(BD_BAD_YEAR), "the Hebrew year is outside 1 to 9999");
-    same_text("name", bd_refusal_name(BD_BUFFER_TOO_SHORT), "the buffer is too short for the list");
-    for (uint64_t a = BD_DONE; a <= BD_BUFFER_TOO_SHORT; ++a) {
-        same("length of a name above 1", bd_refusal_name(a)[0] != '\0' && bd_refusal_name(a)[1] != '\0', 1);
-        for (uint64_t b = BD_DONE; b < a; ++b) same("one name for two", bd_refusal_name(a) == bd_refusal_name(b), 0);
-    }
-    same_text("no name", bd_refusal_name(BD_BUFFER_TOO_SHORT + 1), "?");
+    same("count", COUNT(want), 11);
+    for (uint64_t refusal = 0; refusal < COUNT(want); ++refusal)
+        same_text("name", bd_refusal_name(refusal), want[refusal]);
+    same_text("no name", bd_refusal_name(COUNT(want)), "?");
     for (size_t i = 0; i < COUNT(BEYOND); ++i) same_text("no name", bd_refusal_name(BEYOND[i]), "?");
 }
 

@@ -30,7 +30,7 @@ typedef struct {
     uint64_t year, day, weekday, molad_day, molad_hour, molad_part, length, months;
 } year_row;
 
-/* The days to check of the build description, and New Years of the sources under each of the delays. */
+/* Document 01's days to check, and New Years of the sources under each of the delays. */
 static const year_row YEARS[] = {
     {1, 347998, 2, 347998, 5, 204, 355, 12},
     {2, 348353, 7, 348352, 14, 0, 355, 12},

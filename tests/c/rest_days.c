@@ -21,7 +21,7 @@ static const stretch_row STRETCHES[] = {
 
 static const stretch_row NO_STRETCH = {0, 0, 0, 0};
 
-/* The rest days of 5762 as the build description prints them, and those of a year whose New Year is on a Thursday. */
+/* The rest days of 5762 as document 01 prints them, and those of a year whose New Year is on a Thursday. */
 static const uint64_t REST_5762[] = {2452171, 2452172, 2452180, 2452185, 2452192, 2452362, 2452368, 2452412};
 static const uint64_t REST_5775[] = {2456926, 2456927, 2456935, 2456940, 2456947, 2457117, 2457123, 2457167};
 
