@@ -1,6 +1,5 @@
 // The end of every month in a year of each of the fourteen kinds: the month's length (the columns of sources 000 and 004),
 // its last day, the day after it asked for in the same month, and the date of that next day.
-ghost use Prim.Native.Nat.{_≤_};
 use crate::lines::date_of;
 use crate::lines::day_of;
 use crate::lines::month;

@@ -5,7 +5,7 @@ use Prim.Native.Nat.{ℕ, _+_, _-_, _≤_, _<_}
 use native.Mathlib.Omega.{arith}
 use lib.Dec.{leb}
 use Rattle.days.specs.Range.{firstDay, lastDay, InRange}
-use Rattle.molad.specs.Years.{lastYear, leap}
+use Rattle.molad.specs.Years.{lastYear}
 use Rattle.molad.specs.Molad.{IsMonth}
 use Rattle.newyear.specs.NewYear.{newYear, yearLength, yearOf, InYear}
 use Rattle.newyear.proofs.Lengths.{rises, length-in, length-leap}

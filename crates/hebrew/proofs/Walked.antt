@@ -10,7 +10,6 @@ use borrow.Author.Tests.{eqb-true}
 use lib.Dec.{eqb}
 use Rattle.laws.specs.Runs.{every, eachOf}
 use Rattle.laws.proofs.Tests.{of, of-at, all, Each, facts}
-use Rattle.laws.proofs.One.{one-result}
 use Rattle.laws.proofs.Counted.{begun-is, begun-few}
 use Rattle.newyear.specs.Kinds.{lengths, IsLength}
 use Rattle.hebrew.specs.Months.{monthLength, daysBefore}

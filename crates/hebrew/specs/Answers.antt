@@ -5,7 +5,7 @@ use Rattle.laws.specs.Runs.{outside}
 use Rattle.days.specs.Range.{outOfRange}
 use Rattle.molad.specs.Years.{outOfYears, leap}
 use Rattle.molad.specs.Molad.{noMonth}
-use Rattle.newyear.specs.NewYear.{newYear, yearLength, yearOf}
+use Rattle.newyear.specs.NewYear.{newYear, yearLength}
 use Rattle.hebrew.specs.Months.{monthLength}
 use Rattle.hebrew.specs.Dates.{Date, dayNumber, dateOf}
 use Rattle.hebrew.specs.declared.MonthAnswer.{MonthAnswer}

@@ -1,6 +1,6 @@
 -- The months of a year, by their codes: document 01's table. A month's length depends on its code and, for codes 2 and 3,
 -- on the year's length; code 6, Adar I, is a month of leap years only, and a leap year has 383 days or more.
-use mathlib.Core.Bool.{Bool, _||_, cond}
+use mathlib.Core.Bool.{_||_, cond}
 use mathlib.Core.List.{List, [], _∷_}
 use Prim.Native.Nat.{ℕ, zero, suc, _+_}
 use lib.Dec.{eqb, leb}

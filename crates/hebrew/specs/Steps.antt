@@ -1,6 +1,6 @@
 -- What the steps of the code promise each other, and the crates that use them: the dates of a year of a given length,
 -- one after another.
-use mathlib.Core.Bool.{Bool, _&&_, _||_, cond}
+use mathlib.Core.Bool.{_&&_, _||_, cond}
 use Prim.Native.Nat.{ℕ, _+_, _-_}
 use lib.Dec.{eqb, leb, ltb}
 use Rattle.hebrew.specs.Months.{monthLength, daysBefore}

@@ -1,6 +1,6 @@
 -- What linear arithmetic does not find of quotients and remainders: what a * h + b leaves in a cycle of m,
 -- and how often m goes into it, by the place of h in the cycle.
-use mathlib.Core.Path.{_≡_, refl, ap}
+use mathlib.Core.Path.{_≡_, ap}
 use Prim.Native.Nat.{ℕ, zero, _+_, _*_, _/_, _%_, _<_}
 use native.Mathlib.Omega.{arith}
 use native.Mathlib.Nat.{div-add-mod, mul-add, mul-left-comm, mul-add-div, mul-add-mod-self-left}

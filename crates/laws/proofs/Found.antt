@@ -6,7 +6,6 @@ use Prim.Native.Nat.{ℕ, zero, suc, _+_, _-_, _≤_, _<_}
 use native.Mathlib.Omega.{arith}
 use native.Mathlib.Decide.{ℕ-discrete, decLt}
 use borrow.Author.Tests.{not-true, not-false}
-use native.Mathlib.Numerals.{add-one}
 use Rattle.laws.specs.Search.{seek, seekNot, runStart, Run}
 use Rattle.laws.proofs.Tests.{clash}
 

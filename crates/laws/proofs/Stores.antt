@@ -1,10 +1,10 @@
 -- Lists over the start of a buffer: one more element is one store, and the list is what stands there then.
-use mathlib.Core.Path.{_≡_, refl}
+use mathlib.Core.Path.{_≡_}
 use mathlib.Core.List.{List, [], _∷_, _++_, append-assoc}
 use Prim.Native.Nat.{ℕ, _+_, _≤_, _<_}
 use native.Mathlib.Numerals.{add-one}
 use native.Mathlib.Omega.{arith}
-use lib.ListN.{length, take, drop, set, getD, length-append, length-take}
+use lib.ListN.{length, take, set, getD, length-append, length-take}
 use lib.Seq.{drop-cons, set-at, take-suc, take-append-seam}
 use Rattle.laws.specs.Buffer.{Lent, overwrite}
 

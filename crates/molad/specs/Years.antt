@@ -1,6 +1,6 @@
 -- Leap years, and the months before a year: 13 for each leap year and 12 for each other year, added up.
 use mathlib.Core.Bool.{Bool, cond}
-use mathlib.Core.List.{List, [], _∷_}
+use mathlib.Core.List.{[], _∷_}
 use Prim.Native.Nat.{ℕ, zero, suc, _+_, _-_, _%_, _≤_}
 use Rattle.laws.specs.Runs.{elem, outside}
 

@@ -33,7 +33,7 @@ use Rattle.rest.proofs.Passed.{table-passes}
 use Rattle.stretch.specs.Steps.{nextAt, firstFor, pastFor}
 use Rattle.stretch.specs.Answers.{noStretch, stretchOn, stretchAnswer}
 use Rattle.stretch.proofs.Answered.{worked-out}
-use Rattle.panel.specs.Checked.{BothRoutes, Holds, newYearDay, newYearWeekday, newYearJulian, molad, yearDays, stretch, AllHold, done, _and_, daysToCheck}
+use Rattle.panel.specs.Checked.{BothRoutes, Holds, newYearDay, newYearWeekday, newYearJulian, molad, yearDays, AllHold, done, _and_, daysToCheck}
 
 -- The answer of either route, from the closed month count.
 abbrev parts : ℕ → ℕ

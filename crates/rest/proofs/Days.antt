@@ -1,25 +1,23 @@
 -- The list of a year's rest days, for any table that passes the check.
 use mathlib.Core.Path.{_≡_, refl, sym, _∙_, ap}
-use mathlib.Core.Bool.{Bool, true, false, cond, not, _&&_, _||_, or-true, false≢true}
+use mathlib.Core.Bool.{true, false, or-true, false≢true}
 use mathlib.Core.List.{List, [], _∷_}
 use mathlib.Core.Logic.{by-cases}
-use Prim.Native.Nat.{ℕ, zero, suc, _+_, _*_, _-_, _/_, _%_, _≤_, _<_}
+use Prim.Native.Nat.{ℕ, _/_, _%_, _≤_}
 use native.Mathlib.Omega.{arith}
 use native.Mathlib.Decide.{ℕ-discrete}
 use borrow.Author.Tests.{eq-eqb, ne-eqb}
 use lib.Dec.{eqb, leb}
-use lib.ListN.{length, getD}
 use Rattle.laws.specs.Runs.{eachOf, elem}
 use Rattle.laws.proofs.Tests.{and-left, and-right, each-at}
 use Rattle.laws.proofs.Promises.{ranged, let-pass}
 use Rattle.days.specs.Range.{firstDay, lastDay}
-use Rattle.days.specs.Weekday.{weekday}
 use Rattle.molad.specs.Years.{lastYear}
-use Rattle.newyear.specs.NewYear.{yearLength, yearOf, InYear}
+use Rattle.newyear.specs.NewYear.{yearLength, InYear}
 use Rattle.newyear.proofs.Lengths.{length-in, length-leap}
 use Rattle.newyear.proofs.YearOf.{year-is, year-in-range}
 use Rattle.hebrew.specs.Months.{monthLength}
-use Rattle.hebrew.specs.Dates.{Date, GoodHebrewDate, dayNumber, dateOf}
+use Rattle.hebrew.specs.Dates.{GoodHebrewDate, dayNumber, dateOf}
 use Rattle.hebrew.proofs.Placed.{month-short}
 use Rattle.hebrew.proofs.Dates.{adar-one, date-good, date-day, date-back, in-its-year}
 use Rattle.rest.specs.Table.{row, rowDate, inTable, isRest, restDay, restDays}

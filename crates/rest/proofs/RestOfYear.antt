@@ -1,6 +1,6 @@
 -- The rest days of a year, for any table that passes the check: by the kinds of years, and stated on day numbers.
 use mathlib.Core.Path.{_≡_, refl, sym, _∙_}
-use mathlib.Core.Bool.{Bool, true, false, _&&_, _||_, not, or-true, Bool·beq}
+use mathlib.Core.Bool.{Bool, true, false, _&&_, not, or-true, Bool·beq}
 use mathlib.Core.List.{List}
 use mathlib.Core.Logic.{by-cases}
 use Prim.Native.Nat.{ℕ, _+_, _-_, _*_, _/_, _%_, _≤_, _<_}
@@ -11,17 +11,17 @@ use lib.Dec.{eqb}
 use Rattle.laws.specs.Runs.{every, eachOf, elem}
 use Rattle.laws.proofs.Tests.{at, of, and-left, and-right, beq-true, clash, within}
 use Rattle.laws.proofs.Promises.{ranged, let-pass}
-use Rattle.days.specs.Range.{firstDay, lastDay, InRange, outOfRange}
+use Rattle.days.specs.Range.{firstDay, lastDay, InRange}
 use Rattle.days.specs.Weekday.{weekday}
 use Rattle.molad.specs.Years.{lastYear, lastNewYear}
 use Rattle.newyear.specs.NewYear.{newYear, yearLength, yearOf, InYear}
-use Rattle.newyear.specs.Kinds.{IsLength, kinds, kindOf}
+use Rattle.newyear.specs.Kinds.{kinds, kindOf}
 use Rattle.newyear.proofs.Lengths.{rises, length-in, kind-in}
 use Rattle.newyear.proofs.YearOf.{held, year-is, year-in-range, first}
 use Rattle.hebrew.specs.Months.{monthLength, daysBefore}
 use Rattle.hebrew.specs.Dates.{dateOf, monthOf}
 use Rattle.hebrew.specs.Steps.{yearDate}
-use Rattle.hebrew.proofs.Placed.{InMonth, month-is}
+use Rattle.hebrew.proofs.Placed.{month-is}
 use Rattle.rest.specs.Table.{row, isRest, restDay}
 use Rattle.rest.specs.Steps.{restAt}
 use Rattle.rest.specs.Check.{rowGood, four, passesIn, passes}

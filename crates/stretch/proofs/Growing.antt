@@ -1,7 +1,7 @@
 -- The list of a year's runs, one day more at a time.
-use mathlib.Core.Path.{_≡_, refl, sym, _∙_}
+use mathlib.Core.Path.{_≡_, refl}
 use mathlib.Core.Bool.{Bool, true, false, _&&_, not, cond}
-use mathlib.Core.List.{List, [], _∷_, _++_, append-nil}
+use mathlib.Core.List.{[], _∷_, _++_, append-nil}
 use Prim.Native.Nat.{ℕ, zero, suc, _+_, _-_, _≤_}
 use native.Mathlib.Numerals.{add-one}
 use native.Mathlib.Omega.{arith}
@@ -9,7 +9,6 @@ use borrow.Author.Tests.{ltb-true}
 use lib.Dec.{ltb}
 use lib.ListN.{length, length-append}
 use Rattle.laws.specs.Search.{runStart}
-use Rattle.laws.proofs.Tests.{and-right}
 use Rattle.laws.proofs.Found.{start-tells}
 use Rattle.stretch.specs.Steps.{runBefore, rowsAt}
 

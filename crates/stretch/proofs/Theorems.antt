@@ -1,13 +1,13 @@
 -- What holds of the stretches of any table that passes the check, stated on day numbers.
-use mathlib.Core.Path.{_≡_, refl, sym, _∙_}
-use mathlib.Core.Bool.{Bool, true, false, not, _||_}
+use mathlib.Core.Path.{_≡_}
+use mathlib.Core.Bool.{Bool, true, false, not}
 use mathlib.Core.List.{List}
 use mathlib.Core.Logic.{by-cases}
-use Prim.Native.Nat.{ℕ, zero, suc, _+_, _-_, _%_, _≤_, _<_}
+use Prim.Native.Nat.{ℕ, _+_, _-_, _%_, _≤_, _<_}
 use native.Mathlib.Omega.{arith}
 use native.Mathlib.Decide.{ℕ-discrete, decLt, decLe}
 use borrow.Author.Tests.{eq-eqb, not-false}
-use Rattle.laws.specs.Search.{Run, seek, seekNot, runStart}
+use Rattle.laws.specs.Search.{Run, seekNot, runStart}
 use Rattle.laws.proofs.Tests.{clash}
 use Rattle.laws.proofs.Promises.{ranged, let-pass}
 use Rattle.laws.proofs.Found.{Seek, seek-tells, start-tells, run-begins, run-around}

@@ -1,10 +1,9 @@
 -- A search through the days of a year, one day more at a time; and what a date of the walk tells.
-use mathlib.Core.Path.{_≡_, refl, sym, _∙_, ap}
-use mathlib.Core.Bool.{Bool, true, false, not, cond}
+use mathlib.Core.Path.{_≡_, sym, _∙_, ap}
+use mathlib.Core.Bool.{Bool, true, false}
 use mathlib.Core.List.{List}
 use Prim.Native.Nat.{ℕ, suc, _+_, _-_, _≤_, _<_}
 use native.Mathlib.Omega.{arith}
-use native.Mathlib.Numerals.{add-one}
 use Rattle.laws.specs.Search.{seek, runStart}
 use Rattle.laws.proofs.Found.{seek-here, seek-on}
 use Rattle.newyear.specs.Kinds.{IsLength}

@@ -1,13 +1,13 @@
 -- The runs of one year, for any table that passes the check: by day number, and by the days counted from New Year on.
-use mathlib.Core.Path.{_≡_, refl, sym, _∙_}
+use mathlib.Core.Path.{_≡_, refl, _∙_}
 use mathlib.Core.Bool.{Bool, true, false, not, cond}
 use mathlib.Core.List.{List}
 use mathlib.Core.Logic.{by-cases}
-use Prim.Native.Nat.{ℕ, zero, suc, _+_, _-_, _%_, _≤_, _<_}
+use Prim.Native.Nat.{ℕ, zero, suc, _+_, _-_, _≤_, _<_}
 use native.Mathlib.Omega.{arith}
 use native.Mathlib.Decide.{ℕ-discrete, decLt}
 use borrow.Author.Tests.{not-true, not-false}
-use Rattle.laws.specs.Search.{seek, seekNot, runStart}
+use Rattle.laws.specs.Search.{seekNot, runStart}
 use Rattle.laws.proofs.Tests.{clash}
 use Rattle.laws.proofs.Found.{Seek, seek-tells, seek-is, seek-none, seek-not-is}
 use Rattle.days.specs.Range.{lastDay}

@@ -3,7 +3,7 @@ use mathlib.Core.Bool.{cond}
 use mathlib.Core.List.{List}
 use Prim.Native.Nat.{ℕ, _-_, _/_}
 use lib.Dec.{ltb}
-use lib.IntN.{ℤ, pos, subℕ}
+use lib.IntN.{pos, subℕ}
 use lib.ListN.{length}
 use Rattle.days.specs.Range.{lastDay, outOfRange}
 use Rattle.rest.specs.Answers.{listAnswer, listBuffer}

@@ -1,6 +1,5 @@
 use borrow.Author.Needs.{needs}
 use mathlib.Core.Path.{_≡_}
-use mathlib.Core.Bool.{false}
 use Rattle.laws.proofs.Tests.{within}
 use Rattle.molad.specs.Years.{lastYear, leap}
 use Rattle.molad.specs.Molad.{noMonth}

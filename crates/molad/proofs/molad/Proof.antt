@@ -1,7 +1,6 @@
 -- Each way rewrites with the tests that led there; past both refusals the months before the code are in closed form.
 use borrow.Author.Needs.{needs}
-use mathlib.Core.Path.{_≡_, _∙_, sym}
-use mathlib.Core.Bool.{true, false, _||_, _&&_, not, cond}
+use mathlib.Core.Path.{_≡_}
 use Prim.Native.Nat.{ℕ, _+_, _-_, _≤_}
 use native.Mathlib.Omega.{arith}
 use Rattle.laws.proofs.Tests.{within, or-left}

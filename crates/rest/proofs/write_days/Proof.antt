@@ -1,9 +1,9 @@
 -- Turn by turn the next row's day is stored after those before it.
 use borrow.Author.Needs.{needs}
 use mathlib.Core.Path.{_≡_, refl}
-use Prim.Native.Nat.{_≤_, _-_, _/_, _%_}
+use Prim.Native.Nat.{_≤_, _-_}
 use native.Mathlib.Omega.{arith}
-use lib.ListN.{length as count, take, getD, length-set}
+use lib.ListN.{length as count, take, length-set}
 use lib.Seq.{take-all}
 use Rattle.laws.specs.Buffer.{overwrite}
 use Rattle.laws.proofs.Stores.{over-take}
@@ -11,7 +11,7 @@ use Rattle.laws.proofs.Tests.{each-at}
 use Rattle.hebrew.specs.Dates.{dayNumber}
 use Rattle.rest.specs.Table.{restDays}
 use Rattle.rest.specs.Check.{rowGood}
-use Rattle.rest.proofs.Rows.{GoodRow, good-row, days-at, days-length}
+use Rattle.rest.proofs.Rows.{good-row, days-at, days-length}
 use Rattle.rest.proofs.write_days.Statement.{statement}
 use Rattle.rest.proofs.write_days.Tie as tie
 

@@ -1,5 +1,4 @@
 use borrow.Author.Needs.{needs}
-use native.Mathlib.Omega.{arith}
 use Rattle.hebrew.specs.Steps.{yearDate}
 use Rattle.hebrew.proofs.Placed.{month-holds}
 use Rattle.hebrew.proofs.date.date_after.Statement.{statement}

@@ -1,11 +1,11 @@
 -- The next rest day is asked for first; from it the run's start and end, or the next New Year's.
 use borrow.Author.Needs.{needs}
 use mathlib.Core.Path.{_≡_, sym, _∙_}
-use mathlib.Core.Bool.{Bool, false, not}
-use Prim.Native.Nat.{ℕ, _+_, _-_, _≤_, _<_}
+use mathlib.Core.Bool.{not}
+use Prim.Native.Nat.{_+_, _-_}
 use native.Mathlib.Omega.{arith}
 use borrow.Author.Tests.{lt-ltb, le-ltb}
-use Rattle.laws.specs.Search.{seek, seekNot}
+use Rattle.laws.specs.Search.{seekNot}
 use Rattle.laws.proofs.Found.{Seek, seek-tells}
 use Rattle.hebrew.specs.Steps.{yearDate}
 use Rattle.hebrew.proofs.Walked.{tomorrow-is}
