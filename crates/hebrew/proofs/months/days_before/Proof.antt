@@ -16,7 +16,7 @@ unfolding beforeFrom
 worked c =
     let s = c .before .before .before in
     let k = before-from (s .args .length) (s .args .month) (s .pre .0) (s .pre .1 .0) (s .pre .1 .1) in
-    let e : c .pick3 .result ≡ beforeFrom (s .args .length) (s .args .month) = cc in (e ∙ k .0, k .1)
+    let e : c .pick3 .result ≡ beforeFrom (s .args .length) (s .args .month) = rw (c .pick3 .ensures .0, c .before .pick2 .ensures .0, c .before .before .pick .ensures .0) in (e ∙ k .0, k .1)
 
 pub days-before-spec : {M : Type 1} → statement M
 days-before-spec =
