@@ -1,4 +1,4 @@
--- What a computed test says of a run of numbers, or of a table, holds at each place.
+-- What a computed test says of a run of numbers, of a table or of both truth values holds at each place.
 use mathlib.Core.Path.{_≡_, refl, sym, _∙_}
 use mathlib.Core.Bool.{Bool, true, false, _&&_, _||_, cond, Bool·beq, false≢true}
 use mathlib.Core.List.{List, [], _∷_}
@@ -9,7 +9,7 @@ use native.Mathlib.Decide.{ℕ-discrete}
 use borrow.Author.Tests.{eqb-true, ne-eqb, ltb-false}
 use lib.Dec.{eqb, ltb}
 use lib.ListN.{length, getD}
-use Rattle.laws.specs.Runs.{every, eachOf, elem, outside}
+use Rattle.laws.specs.Runs.{every, eachOf, eitherWay, elem, outside}
 
 pub and-left : (a b : Bool) → a && b ≡ true → a ≡ true
 and-left true b e = refl
@@ -59,6 +59,11 @@ of (y ∷ l) p e x h =
     by-cases (ℕ-discrete x y)
     (λ q. rw q (and-left _ _ e))
     (λ q. of l p (and-right (p y) _ e) x (rw (ne-eqb x y q) at h))
+
+pub whether : (p : Bool → Bool) → eitherWay p ≡ true → (b : Bool) → p b ≡ true
+unfolding eitherWay
+whether p e true = and-left _ _ e
+whether p e false = and-right (p true) _ e
 
 -- The entry by its index.
 pub each-at : (l : List ℕ) (p : ℕ → Bool) → eachOf l p ≡ true → (i : ℕ) → i < length l → p (getD l i 0) ≡ true

@@ -1,4 +1,5 @@
--- Tests that the checker computes, over a run of numbers and over a table; and a range that a number lies outside.
+-- Tests that the checker computes, over a run of numbers, over a table and over both truth values; and a range that a
+-- number lies outside.
 use mathlib.Core.Bool.{Bool, true, false, _&&_, _||_}
 use mathlib.Core.List.{List, [], _∷_}
 use Prim.Native.Nat.{ℕ, zero, suc}
@@ -13,6 +14,10 @@ every a (suc n) p = p a && every (suc a) n p
 unfoldable pub eachOf : List ℕ → (ℕ → Bool) → Bool
 eachOf [] p = true
 eachOf (x ∷ l) p = p x && eachOf l p
+
+-- The test p passes whether or not.
+unfoldable pub eitherWay : (Bool → Bool) → Bool
+eitherWay p = p true && p false
 
 -- x is an entry of the list.
 abbrev pub elem : ℕ → List ℕ → Bool

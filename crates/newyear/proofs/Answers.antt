@@ -6,42 +6,78 @@ use Prim.Native.Nat.{ℕ, _+_, _-_, _%_}
 use native.Mathlib.Omega.{arith}
 use Rattle.laws.specs.Promise.{_else_, Promised}
 use Rattle.laws.proofs.One.{one-result}
-use Rattle.laws.proofs.Promises.{ranged, asks, answered}
+use Rattle.laws.proofs.Promises.{ranged, let-pass, asks, answered}
 use Rattle.days.specs.Range.{firstDay, lastDay, InRange}
-use Rattle.molad.specs.Years.{lastYear, InYears, lastNewYear, outOfNewYears, leap, monthsIn}
+use Rattle.days.specs.Weekday.{weekday}
+use Rattle.molad.specs.Years.{lastYear, InYears, lastNewYear, InNewYears, outOfNewYears, leap, monthsIn}
 use Rattle.molad.specs.Molad.{moladDay, moladTime}
-use Rattle.newyear.specs.NewYear.{newYear, yearLength, yearOf, InYear}
+use Rattle.newyear.specs.NewYear.{delayIn, newYear, yearLength, yearOf, InYear}
 use Rattle.newyear.specs.Answers.{noNewYear, newYearOn, newYearAnswer, yearAnswer, yearOfDayAnswer}
-use Rattle.newyear.specs.Promises.{PromisedNewYear}
+use Rattle.newyear.specs.Promises.{Explained, PromisedNewYear}
 use Rattle.newyear.specs.Spans.{Spans}
 use Rattle.newyear.specs.Steps.{IsDelay}
+use Rattle.newyear.specs.declared.delays.Delayed.{Delayed}
 use Rattle.newyear.specs.declared.NewYearAnswer.{NewYearAnswer}
 use Rattle.newyear.specs.declared.YearAnswer.{YearAnswer}
 use Rattle.newyear.specs.declared.YearOfDayAnswer.{YearOfDayAnswer}
 use Rattle.newyear.specs.declared.span.Span.{Span}
+use Rattle.newyear.proofs.Late.{explained}
+use Rattle.newyear.proofs.Quick.{quickDelay, delayIn-quick}
 use Rattle.newyear.proofs.YearOf.{held}
 
-pub on-promised : (h j moladJ t : ℕ) → PromisedNewYear h j moladJ t (cond (outOfNewYears h) (noNewYear 1) (newYearOn j moladJ t))
-on-promised h j moladJ t =
-    asks (noNewYear 1) (ranged 1 lastNewYear h) (omega arith) refl (refl, (refl, (refl, (refl, refl)))) (λ _.
-    answered refl ((refl, refl), (refl, (refl, refl))))
+-- By either route: New Year comes after the molad by the delay, which has its cause.
+pub on-promised :
+    (h j moladJ t : ℕ) (late : Delayed) →
+    (InNewYears h → (moladJ + late .delay ≡ j) × Explained (weekday moladJ) t (leap h) (leap (h - 1)) (late .delay) (late .cause)) →
+    PromisedNewYear h j moladJ t (cond (outOfNewYears h) (noNewYear 1) (newYearOn j moladJ t late))
+on-promised h j moladJ t late why =
+    asks (noNewYear 1) (ranged 1 lastNewYear h) (omega arith) refl (refl, (refl, (refl, (refl, (refl, (refl, refl)))))) (λ y.
+    answered refl ((refl, refl), ((refl, (refl, refl)), why y)))
+
+-- Why New Year comes so many days after the molad of Tishri, in every year.
+pub because :
+    (h : ℕ) →
+    (moladDay h 1 + delayIn h .delay ≡ newYear h)
+    × Explained (weekday (moladDay h 1)) (moladTime h 1) (leap h) (leap (h - 1)) (delayIn h .delay) (delayIn h .cause)
+unfolding newYear delayIn
+because h = (refl, explained (weekday (moladDay h 1)) (moladTime h 1) (leap h) (leap (h - 1)) (omega arith) (omega arith))
 
 pub new-year-promised : (h : ℕ) → PromisedNewYear h (newYear h) (moladDay h 1) (moladTime h 1) (newYearAnswer h)
 unfolding newYearAnswer
-new-year-promised h = on-promised h (newYear h) (moladDay h 1) (moladTime h 1)
+new-year-promised h = on-promised h (newYear h) (moladDay h 1) (moladTime h 1) (delayIn h) (λ _. because h)
 
 pub year-promised :
     (h : ℕ) →
     Promised (λ (r : YearAnswer). r .refusal) (InYears h else 1 ∷ [])
     (λ r.
     ((r .«new_year» ≡ newYear h) × (r .weekday ≡ (newYear h + 1) % 7 + 1))
-    × ((r .length ≡ newYear (h + 1) - newYear h) × (r .months ≡ cond (leap h) 13 12)))
-    (λ n r. (r .«new_year» ≡ 0) × ((r .weekday ≡ 0) × ((r .length ≡ 0) × (r .months ≡ 0))))
+    × (((r .length ≡ newYear (h + 1) - newYear h) × (r .months ≡ cond (leap h) 13 12))
+    × ((moladDay h 1 + r .delay ≡ newYear h)
+    × Explained ((moladDay h 1 + 1) % 7 + 1) (moladTime h 1) (leap h) (leap (h - 1)) (r .delay) (r .cause))))
+    (λ n r.
+    (r .«new_year» ≡ 0)
+    × ((r .weekday ≡ 0) × ((r .length ≡ 0) × ((r .months ≡ 0) × ((r .delay ≡ 0) × (r .cause ≡ 0))))))
     (yearAnswer h)
 unfolding yearAnswer yearLength monthsIn
 year-promised h =
-    asks (record { refusal = 1; «new_year» = 0; weekday = 0; length = 0; months = 0 }) (ranged 1 lastYear h) (omega arith) refl (refl, (refl, (refl, refl))) (λ _.
-    answered refl ((refl, refl), (refl, refl)))
+    asks (record { refusal = 1; «new_year» = 0; weekday = 0; length = 0; months = 0; delay = 0; cause = 0 }) (ranged 1 lastYear h) (omega arith) refl (refl, (refl, (refl, (refl, (refl, refl))))) (λ _.
+    answered refl ((refl, refl), ((refl, refl), because h)))
+
+-- Year h is answered with cause c.
+abbrev HasCause : ℕ → ℕ → Type 0
+HasCause h c = (newYearAnswer h .refusal ≡ 0) × (newYearAnswer h .cause ≡ c)
+
+has-cause : (h c : ℕ) → InNewYears h → quickDelay h .cause ≡ c → HasCause h c
+unfolding newYearAnswer
+has-cause h c y e = rw (let-pass (ranged 1 lastNewYear h) y, delayIn-quick h (y .0)) (refl, e)
+
+-- Each cause occurs, in these years among others.
+pub every-cause : ((HasCause 1 0 × HasCause 4 1) × (HasCause 2 2 × HasCause 3 3)) × (HasCause 7 4 × HasCause 75 5)
+unfolding quickDelay
+every-cause = (
+  ((has-cause 1 0 (omega arith) refl, has-cause 4 1 (omega arith) refl), (has-cause 2 2 (omega arith) refl, has-cause 3 3 (omega arith) refl)),
+  (has-cause 7 4 (omega arith) refl, has-cause 75 5 (omega arith) refl),
+)
 
 -- The year told holds the day.
 pub year-of-day-promised :
@@ -63,7 +99,7 @@ year-one h = one-result (yearAnswer h)
 pub year-of-day-one : (j : ℕ) (r s : YearOfDayAnswer) → r ≡ yearOfDayAnswer j → s ≡ yearOfDayAnswer j → r ≡ s
 year-of-day-one j = one-result (yearOfDayAnswer j)
 
-pub delay-one : (w t : ℕ) (isLeap afterLeap : Bool) (r s : ℕ) → IsDelay w t isLeap afterLeap r → IsDelay w t isLeap afterLeap s → r ≡ s
+pub delay-one : (w t : ℕ) (isLeap afterLeap : Bool) (r s : Delayed) → IsDelay w t isLeap afterLeap r → IsDelay w t isLeap afterLeap s → r ≡ s
 delay-one w t isLeap afterLeap r s p q = p .0 ∙ sym (q .0)
 
 pub year-span-one : (h : ℕ) (r s : Span) → Spans h r → Spans h s → r ≡ s

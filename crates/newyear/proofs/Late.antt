@@ -1,37 +1,122 @@
--- A delay has at most two days; and each rule applies at its very limit, and not a part before it.
-use mathlib.Core.Path.{_≡_, refl}
-use mathlib.Core.Bool.{Bool, true, false, cond}
-use mathlib.Core.List.{[], _∷_}
-use Prim.Native.Nat.{ℕ, _+_, _≤_}
+-- What the delays do: at most two days; and each cause exactly where its rule applies, with its own days.
+use mathlib.Core.Path.{_≡_, refl, sym, _∙_}
+use mathlib.Core.Bool.{Bool, true, false, _&&_, not, cond, Bool·beq}
+use mathlib.Core.List.{List, [], _∷_}
+use mathlib.Core.Logic.{_↔_, by-cases}
+use Prim.Native.Nat.{ℕ, _+_, _≤_, _<_}
 use native.Mathlib.Omega.{arith}
-use lib.Dec.{leb}
-use Rattle.laws.specs.Runs.{elem}
-use Rattle.laws.proofs.Tests.{cond-le}
-use Rattle.molad.specs.Units.{time}
-use Rattle.newyear.specs.Delays.{delay, noon, tuesdayRule, mondayRule, noonStep, weekdayStep, weekdayLater}
+use native.Mathlib.Decide.{decLt}
+use lib.Dec.{eqb, ltb, leb}
+use lib.ListN.{getD}
+use borrow.Author.Tests.{eq-eqb, eqb-true, lt-ltb, le-ltb, ltb-true, ltb-false, le-leb, lt-leb, leb-true, not-true}
+use Rattle.laws.specs.Runs.{every, eitherWay, elem}
+use Rattle.laws.proofs.Tests.{and-left, and-right, at, whether, all, Each, facts, beq-true}
+use Rattle.newyear.specs.Delays.{tuesdayRule, mondayRule, fromNoon, closed, _daysBy_, delayed}
+use Rattle.newyear.specs.Promises.{Explained}
+use Rattle.newyear.specs.declared.delays.Delayed.{Delayed}
 
-noon-one : (t : ℕ) → noonStep t ≤ 1
-unfolding noonStep
-noon-one t = cond-le (leb noon t) 1 0 1 (omega arith) (omega arith)
+-- The delay by what the rules say: whether the Tuesday and the Monday rule apply, whether it is noon or later, and whether
+-- the next day and the day itself are left out.
+abbrev pub byRules : Bool → Bool → Bool → Bool → Bool → Delayed
+byRules tuesday monday noon next this =
+    cond tuesday (2 daysBy 4)
+    (cond monday (1 daysBy 5)
+    (cond noon (cond next (2 daysBy 3) (1 daysBy 1)) (cond this (1 daysBy 2) (0 daysBy 0))))
 
-weekday-one : (w : ℕ) → weekdayStep w ≤ 1
-unfolding weekdayStep
-weekday-one w = cond-le (elem w (1 ∷ 4 ∷ 6 ∷ [])) 1 0 1 (omega arith) (omega arith)
+two-all : eitherWay (λ a. eitherWay (λ b. eitherWay (λ c. eitherWay (λ d. eitherWay (λ e. leb (byRules a b c d e .delay) 2))))) ≡ true
+unfolding eitherWay
+two-all = refl
 
-pub at-most-two : (w t : ℕ) (isLeap afterLeap : Bool) → delay w t isLeap afterLeap ≤ 2
-unfolding delay
+pub at-most-two : (w t : ℕ) (isLeap afterLeap : Bool) → delayed w t isLeap afterLeap .delay ≤ 2
+unfolding delayed
 at-most-two w t isLeap afterLeap =
-    let n = noonStep t in
-    let steps : n + weekdayStep (weekdayLater w n) ≤ 2 = omega (arith, noon-one t, weekday-one (weekdayLater w n)) in
-    let m = mondayRule w t afterLeap in
-    cond-le (tuesdayRule w t isLeap) 2 (cond m 1 _) 2 (omega arith) (cond-le m 1 _ 2 (omega arith) steps)
+    leb-true _ _
+    (whether _ (whether _ (whether _ (whether _ (whether _ two-all (tuesdayRule w t isLeap)) (mondayRule w t afterLeap)) (fromNoon t)) (closed (w + 1))) (closed w))
 
--- "At or later" decides: at noon, 18h 0p, and at the limits of the Tuesday and of the Monday rule.
-pub at-the-limits :
-    (b : Bool) →
-    ((delay 2 (time 18 0) b false ≡ 1) × (delay 2 (time 17 1079) b false ≡ 0))
-    × (((delay 3 (time 9 204) false b ≡ 2) × (delay 3 (time 9 203) false b ≡ 0))
-    × ((delay 2 (time 15 589) b true ≡ 1) × (delay 2 (time 15 588) b true ≡ 0)))
-unfolding delay tuesdayRule mondayRule noonStep weekdayStep
-at-the-limits true = ((refl, refl), ((refl, refl), (refl, refl)))
-at-the-limits false = ((refl, refl), ((refl, refl), (refl, refl)))
+-- The delay by what the tests of the time say: whether it is at or past the Tuesday and the Monday limit, and whether it is
+-- before noon.
+abbrev pub byTimes : ℕ → Bool → Bool → Bool → Bool → Bool → Delayed
+byTimes w common afterLeap nine fifteen morning =
+    byRules (common && eqb w 3 && nine && morning) (afterLeap && eqb w 2 && fifteen && morning) (not morning) (closed (w + 1)) (closed w)
+
+noon-or-morning : (t : ℕ) → leb 19440 t ≡ not (ltb t 19440)
+noon-or-morning t =
+    by-cases (decLt t 19440)
+    (λ p. rw (lt-ltb t 19440 p, lt-leb 19440 t p))
+    (λ p. rw (le-ltb t 19440 (omega arith), le-leb 19440 t (omega arith)))
+
+pub by-times : (w t : ℕ) (isLeap afterLeap : Bool) → delayed w t isLeap afterLeap ≡ byTimes w (not isLeap) afterLeap (leb 9924 t) (leb 16789 t) (ltb t 19440)
+unfolding delayed tuesdayRule mondayRule fromNoon
+by-times w t isLeap afterLeap = rw (noon-or-morning t)
+
+-- What is to be shown, as tests: each cause, that there is no other, and the days.
+tests : ℕ → Bool → Bool → Bool → Bool → Bool → List Bool
+tests w common afterLeap nine fifteen morning =
+    let late = byTimes w common afterLeap nine fifteen morning in
+    let c = late .cause in
+    Bool·beq (eqb c 1) (not morning && elem w (1 ∷ 2 ∷ 4 ∷ 6 ∷ []))
+    ∷ Bool·beq (eqb c 2) (morning && elem w (1 ∷ 4 ∷ 6 ∷ []))
+    ∷ Bool·beq (eqb c 3) (not morning && elem w (3 ∷ 5 ∷ 7 ∷ []))
+    ∷ Bool·beq (eqb c 4) ((common && eqb w 3) && (nine && morning))
+    ∷ Bool·beq (eqb c 5) ((afterLeap && eqb w 2) && (fifteen && morning))
+    ∷ leb c 5 ∷ eqb (late .delay) (getD (0 ∷ 1 ∷ 1 ∷ 2 ∷ 2 ∷ 1 ∷ []) c 0) ∷ []
+
+tests-all : every 1 7 (λ w. eitherWay (λ a. eitherWay (λ b. eitherWay (λ c. eitherWay (λ d. eitherWay (λ e. all (tests w a b c d e))))))) ≡ true
+unfolding every eitherWay tests closed
+tests-all = refl
+
+passed : (w : ℕ) → 1 ≤ w → w ≤ 7 → (a b c d e : Bool) → Each (tests w a b c d e)
+passed w l u a b c d e =
+    facts (tests w a b c d e)
+    (whether _ (whether _ (whether _ (whether _ (whether _ (at 1 7 _ tests-all w l (omega arith)) a) b) c) d) e)
+
+-- A test that passes exactly where something holds.
+abbrev Tells : Bool → Type 0 → Type 0
+Tells test P = (test ≡ true) ↔ P
+
+both : (a b : Bool) {P Q : Type 0} → Tells a P → Tells b Q → Tells (a && b) (P × Q)
+both a b p q = (λ e. (p .0 (and-left _ _ e), q .0 (and-right a _ e)), λ r. rw (p .1 (r .0), q .1 (r .1)))
+
+-- A number is k exactly where such a test passes.
+exactly : (n k : ℕ) (test : Bool) {P : Type 0} → Bool·beq (eqb n k) test ≡ true → Tells test P → (n ≡ k) ↔ P
+exactly n k test e t = (λ q. t .0 (sym (beq-true _ _ e) ∙ eq-eqb n k q), λ p. eqb-true n k (beq-true _ _ e ∙ t .1 p))
+
+passes : (b : Bool) → Tells b (b ≡ true)
+passes b = (λ e. e, λ e. e)
+
+fails : (b : Bool) → Tells (not b) (b ≡ false)
+fails b = (not-true b, λ e. rw e)
+
+is : (w k : ℕ) → Tells (eqb w k) (w ≡ k)
+is w k = (eqb-true w k, eq-eqb w k)
+
+from : (limit t : ℕ) → Tells (leb limit t) (limit ≤ t)
+from limit t = (leb-true limit t, le-leb limit t)
+
+before : (limit t : ℕ) → Tells (ltb t limit) (t < limit)
+before limit t = (ltb-true t limit, lt-ltb t limit)
+
+not-before : (limit t : ℕ) → Tells (not (ltb t limit)) (limit ≤ t)
+not-before limit t = (λ e. ltb-false t limit (not-true _ e), λ p. rw (le-ltb t limit p))
+
+-- Why New Year comes when it does.
+pub explained :
+    (w t : ℕ) (isLeap afterLeap : Bool) → 1 ≤ w → w ≤ 7 →
+    Explained w t isLeap afterLeap (delayed w t isLeap afterLeap .delay) (delayed w t isLeap afterLeap .cause)
+unfolding tests
+explained w t isLeap afterLeap l u =
+    let nine = leb 9924 t in
+    let fifteen = leb 16789 t in
+    let morning = ltb t 19440 in
+    let p = passed w l u (not isLeap) afterLeap nine fifteen morning in
+    let q = p .1 .1 .1 in
+    rw (by-times w t isLeap afterLeap)
+    (record {
+      noon = exactly _ 1 _ (p .0) (both (not morning) _ (not-before 19440 t) (passes _));
+      on-weekday = exactly _ 2 _ (p .1 .0) (both morning _ (before 19440 t) (passes _));
+      noon-then-weekday = exactly _ 3 _ (p .1 .1 .0) (both (not morning) _ (not-before 19440 t) (passes _));
+      tuesday = exactly _ 4 _ (q .0) (both (not isLeap && eqb w 3) (nine && morning) (both (not isLeap) (eqb w 3) (fails isLeap) (is w 3)) (both nine morning (from 9924 t) (before 19440 t)));
+      monday = exactly _ 5 _ (q .1 .0) (both (afterLeap && eqb w 2) (fifteen && morning) (both afterLeap (eqb w 2) (passes afterLeap) (is w 2)) (both fifteen morning (from 16789 t) (before 19440 t)));
+      known = leb-true _ _ (q .1 .1 .0);
+      days = eqb-true _ _ (q .1 .1 .1 .0);
+    })

@@ -7,8 +7,9 @@ use Rattle.molad.specs.Units.{partsInDay}
 use Rattle.molad.specs.Years.{leap, monthsBefore}
 use Rattle.molad.specs.Molad.{moladAfter, moladParts, moladDay, moladTime, monthsOfYearBefore, noMonth}
 use Rattle.molad.proofs.Closed.{months-closed}
-use Rattle.newyear.specs.Delays.{delay, tuesdayRule, mondayRule, noonStep, weekdayStep}
-use Rattle.newyear.specs.NewYear.{newYear}
+use Rattle.newyear.specs.Delays.{delayed, tuesdayRule, mondayRule, fromNoon, closed}
+use Rattle.newyear.specs.NewYear.{delayIn, newYear}
+use Rattle.newyear.specs.declared.delays.Delayed.{Delayed}
 
 -- No month of a year comes before Tishri.
 tishri-parts : (h : ℕ) → moladParts h 1 ≡ moladAfter (monthsBefore h)
@@ -23,16 +24,28 @@ pub tishri-time : (h : ℕ) → moladTime h 1 ≡ moladAfter (monthsBefore h) % 
 unfolding moladTime
 tishri-time h = rw (tishri-parts h)
 
--- New Year of year h from the parts p of its molad.
+-- The parts to the molad of year h, and the delay after a molad at so many parts.
+abbrev pub quickParts : ℕ → ℕ
+quickParts h = moladAfter ((235 * h - 234) / 19)
+
+unfoldable pub delayFrom : ℕ → ℕ → Delayed
+delayFrom h p = delayed (weekday (p / partsInDay)) (p % partsInDay) (leap h) (leap (h - 1))
+
+unfoldable pub quickDelay : ℕ → Delayed
+unfolding delayFrom delayed tuesdayRule mondayRule fromNoon closed moladAfter leap
+quickDelay h = delayFrom h (quickParts h)
+
 unfoldable pub newYearFrom : ℕ → ℕ → ℕ
-newYearFrom h p =
-    let j = p / partsInDay in
-    j + delay (weekday j) (p % partsInDay) (leap h) (leap (h - 1))
+newYearFrom h p = p / partsInDay + delayFrom h p .delay
 
 unfoldable pub quick : ℕ → ℕ
-unfolding newYearFrom delay tuesdayRule mondayRule noonStep weekdayStep moladAfter leap
-quick h = newYearFrom h (moladAfter ((235 * h - 234) / 19))
+unfolding newYearFrom delayFrom delayed tuesdayRule mondayRule fromNoon closed moladAfter leap
+quick h = newYearFrom h (quickParts h)
+
+pub delayIn-quick : (h : ℕ) → 1 ≤ h → delayIn h ≡ quickDelay h
+unfolding delayIn quickDelay delayFrom
+delayIn-quick h l = rw (tishri-day h, tishri-time h, months-closed h l)
 
 pub newYear-quick : (h : ℕ) → 1 ≤ h → newYear h ≡ quick h
-unfolding newYear quick newYearFrom
+unfolding newYear delayIn quick newYearFrom delayFrom
 newYear-quick h l = rw (tishri-day h, tishri-time h, months-closed h l)

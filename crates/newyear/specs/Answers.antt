@@ -6,17 +6,18 @@ use Rattle.days.specs.Weekday.{weekday}
 use Rattle.molad.specs.Units.{partsInHour}
 use Rattle.molad.specs.Years.{outOfYears, outOfNewYears, monthsIn}
 use Rattle.molad.specs.Molad.{moladDay, moladTime}
-use Rattle.newyear.specs.NewYear.{newYear, yearLength, yearOf}
+use Rattle.newyear.specs.NewYear.{delayIn, newYear, yearLength, yearOf}
+use Rattle.newyear.specs.declared.delays.Delayed.{Delayed}
 use Rattle.newyear.specs.declared.NewYearAnswer.{NewYearAnswer}
 use Rattle.newyear.specs.declared.YearAnswer.{YearAnswer}
 use Rattle.newyear.specs.declared.YearOfDayAnswer.{YearOfDayAnswer}
 
 abbrev pub noNewYear : ℕ → NewYearAnswer
-noNewYear n = record { refusal = n; day = 0; weekday = 0; «molad_day» = 0; «molad_hour» = 0; «molad_part» = 0 }
+noNewYear n = record { refusal = n; day = 0; weekday = 0; «molad_day» = 0; «molad_hour» = 0; «molad_part» = 0; delay = 0; cause = 0 }
 
--- New Year from its day, and the molad's day and time.
-abbrev pub newYearOn : ℕ → ℕ → ℕ → NewYearAnswer
-newYearOn j moladJ t =
+-- New Year from its day, the molad's day and time, and the delay with its cause.
+abbrev pub newYearOn : ℕ → ℕ → ℕ → Delayed → NewYearAnswer
+newYearOn j moladJ t late =
     record {
       refusal = 0;
       day = j;
@@ -24,18 +25,28 @@ newYearOn j moladJ t =
       «molad_day» = moladJ;
       «molad_hour» = t / partsInHour;
       «molad_part» = t % partsInHour;
+      delay = late .delay;
+      cause = late .cause;
     }
 
 -- Refusal 1: the year lies outside 1..10,000.
 unfoldable pub newYearAnswer : ℕ → NewYearAnswer
-newYearAnswer h = cond (outOfNewYears h) (noNewYear 1) (newYearOn (newYear h) (moladDay h 1) (moladTime h 1))
+newYearAnswer h = cond (outOfNewYears h) (noNewYear 1) (newYearOn (newYear h) (moladDay h 1) (moladTime h 1) (delayIn h))
 
 -- Refusal 1: the year lies outside 1..9999.
 unfoldable pub yearAnswer : ℕ → YearAnswer
 yearAnswer h =
     cond (outOfYears h)
-    (record { refusal = 1; «new_year» = 0; weekday = 0; length = 0; months = 0 })
-    (record { refusal = 0; «new_year» = newYear h; weekday = weekday (newYear h); length = yearLength h; months = monthsIn h })
+    (record { refusal = 1; «new_year» = 0; weekday = 0; length = 0; months = 0; delay = 0; cause = 0 })
+    (record {
+      refusal = 0;
+      «new_year» = newYear h;
+      weekday = weekday (newYear h);
+      length = yearLength h;
+      months = monthsIn h;
+      delay = delayIn h .delay;
+      cause = delayIn h .cause;
+    })
 
 -- Refusal 4: the day number lies outside the range.
 unfoldable pub yearOfDayAnswer : ℕ → YearOfDayAnswer

@@ -4,11 +4,15 @@ use Rattle.laws.specs.Begun.{begun}
 use Rattle.days.specs.Weekday.{weekday}
 use Rattle.molad.specs.Years.{lastYear, leap}
 use Rattle.molad.specs.Molad.{moladDay, moladTime}
-use Rattle.newyear.specs.Delays.{delay}
+use Rattle.newyear.specs.Delays.{delayed}
+use Rattle.newyear.specs.declared.delays.Delayed.{Delayed}
 
--- The molad of Tishri, code 1.
+-- How New Year is delayed after the molad of Tishri, code 1, and why.
+unfoldable pub delayIn : ℕ → Delayed
+delayIn h = delayed (weekday (moladDay h 1)) (moladTime h 1) (leap h) (leap (h - 1))
+
 unfoldable pub newYear : ℕ → ℕ
-newYear h = moladDay h 1 + delay (weekday (moladDay h 1)) (moladTime h 1) (leap h) (leap (h - 1))
+newYear h = moladDay h 1 + delayIn h .delay
 
 -- A year's length is the distance to the next New Year.
 unfoldable pub yearLength : ℕ → ℕ

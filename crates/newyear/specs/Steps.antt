@@ -5,14 +5,15 @@ use Prim.Native.Nat.{ℕ, _+_, _≤_, _<_}
 use Rattle.days.specs.Weekday.{weekday}
 use Rattle.molad.specs.Units.{partsInDay}
 use Rattle.molad.specs.Molad.{moladDay, moladTime}
-use Rattle.newyear.specs.Delays.{delay}
-use Rattle.newyear.specs.NewYear.{newYear, yearOf}
+use Rattle.newyear.specs.Delays.{delayed}
+use Rattle.newyear.specs.NewYear.{delayIn, newYear, yearOf}
+use Rattle.newyear.specs.declared.delays.Delayed.{Delayed}
 use Rattle.newyear.specs.declared.span.Found.{Found}
 use Rattle.newyear.specs.declared.tishri.Tishri.{Tishri}
 
--- The delay of a molad on weekday w at time t.
-abbrev pub IsDelay : ℕ → ℕ → Bool → Bool → ℕ → Type 0
-IsDelay w t isLeap afterLeap r = (r ≡ delay w t isLeap afterLeap) × (r ≤ 2)
+-- The delay of a molad on weekday w at time t, and its cause.
+abbrev pub IsDelay : ℕ → ℕ → Bool → Bool → Delayed → Type 0
+IsDelay w t isLeap afterLeap r = (r ≡ delayed w t isLeap afterLeap) × (r .delay ≤ 2)
 
 -- New Year of year h, and the molad that it comes from.
 pub record Begins (h : ℕ) (t : Tishri) : Type 0 where
@@ -20,6 +21,8 @@ pub record Begins (h : ℕ) (t : Tishri) : Type 0 where
   pub on : t .weekday ≡ weekday (newYear h)
   pub molad-day : t .«molad_day» ≡ moladDay h 1
   pub molad-time : t .«molad_time» ≡ moladTime h 1
+  pub delay : t .delay ≡ delayIn h .delay
+  pub cause : t .cause ≡ delayIn h .cause
   pub small : t .«new_year» ≤ 4002000
   pub in-day : t .«molad_time» < partsInDay
 

@@ -2,14 +2,16 @@
 //
 // New Year is the day of the molad of Tishri, or one or two days later. Four delays put it off: a molad at noon or later
 // goes to the next day; New Year falls on no Sunday, Wednesday or Friday; and two rules for a molad late on a Tuesday or
-// a Monday keep a year from being too long or too short. A year's length is the distance to the next New Year: 353, 354
-// or 355 days in a common year, 383, 384 or 385 in a leap year.
+// a Monday keep a year from being too long or too short. The answers tell the delay in days and its cause, 0 to 5. A
+// year's length is the distance to the next New Year: 353, 354 or 355 days in a common year, 383, 384 or 385 in a leap
+// year.
 mod delays;
 mod span;
 mod tishri;
 
 ghost use mathlib.Core.Path.{_≡_};
 ghost use Rattle.newyear.specs.Answers.{newYearAnswer, yearAnswer, yearOfDayAnswer};
+pub use delays::Delayed;
 pub use delays::delay;
 pub use span::Span;
 pub use span::year_holding;
@@ -25,6 +27,8 @@ pub struct NewYearAnswer {
     pub molad_day: u64,
     pub molad_hour: u64,
     pub molad_part: u64,
+    pub delay: u64,
+    pub cause: u64,
 }
 
 #[repr(C)]
@@ -34,6 +38,8 @@ pub struct YearAnswer {
     pub weekday: u64,
     pub length: u64,
     pub months: u64,
+    pub delay: u64,
+    pub cause: u64,
 }
 
 #[repr(C)]
@@ -54,6 +60,8 @@ pub fn new_year(year: u64) -> NewYearAnswer
             molad_day: 0,
             molad_hour: 0,
             molad_part: 0,
+            delay: 0,
+            cause: 0,
         };
     }
     let t = begins(year);
@@ -64,6 +72,8 @@ pub fn new_year(year: u64) -> NewYearAnswer
         molad_day: t.molad_day,
         molad_hour: t.molad_time / 1080,
         molad_part: t.molad_time % 1080,
+        delay: t.delay,
+        cause: t.cause,
     }
 }
 
@@ -78,15 +88,20 @@ pub fn year(year: u64) -> YearAnswer
             weekday: 0,
             length: 0,
             months: 0,
+            delay: 0,
+            cause: 0,
         };
     }
-    let span = year_span(year);
+    let first = begins(year);
+    let length = begins(year + 1).new_year - first.new_year;
     YearAnswer {
         refusal: 0,
-        new_year: span.new_year,
-        weekday: days::weekday_of(span.new_year),
-        length: span.length,
-        months: laws::pick(383 <= span.length, 13, 12),
+        new_year: first.new_year,
+        weekday: first.weekday,
+        length,
+        months: laws::pick(383 <= length, 13, 12),
+        delay: first.delay,
+        cause: first.cause,
     }
 }
 

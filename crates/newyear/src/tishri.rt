@@ -9,6 +9,8 @@ pub struct Tishri {
     pub molad_day: u64,
     // In parts, 0 to 25,919.
     pub molad_time: u64,
+    pub delay: u64,
+    pub cause: u64,
 }
 
 // A step, for the years 1 to 10,000.
@@ -21,11 +23,13 @@ pub fn begins(year: u64) -> Tishri
     let weekday = days::weekday_of(m.day);
     let late = delay(weekday, m.time, before.leap, before.after_leap);
     // The day after Saturday, 8, is Sunday again.
-    let moved = weekday + late;
+    let moved = weekday + late.delay;
     Tishri {
-        new_year: m.day + late,
+        new_year: m.day + late.delay,
         weekday: laws::pick(7 < moved, moved, moved + 7) - 7,
         molad_day: m.day,
         molad_time: m.time,
+        delay: late.delay,
+        cause: late.cause,
     }
 }

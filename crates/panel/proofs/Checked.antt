@@ -21,7 +21,7 @@ use Rattle.molad.proofs.Closed.{months-closed}
 use Rattle.newyear.specs.NewYear.{newYear, yearLength}
 use Rattle.newyear.specs.Answers.{newYearOn, newYearAnswer, yearAnswer}
 use Rattle.newyear.specs.declared.NewYearAnswer.{NewYearAnswer}
-use Rattle.newyear.proofs.Quick.{quick, newYear-quick, tishri-day, tishri-time}
+use Rattle.newyear.proofs.Quick.{tishri-day, tishri-time, quickParts, quickDelay, quick, delayIn-quick, newYear-quick}
 use Rattle.rhodes.proofs.Same.{same-answer}
 use Rattle.hebrew.specs.Months.{monthLength}
 use Rattle.hebrew.specs.Months.{daysBefore as hebrewDaysBefore}
@@ -36,16 +36,13 @@ use Rattle.stretch.proofs.Answered.{worked-out}
 use Rattle.panel.specs.Checked.{BothRoutes, Holds, newYearDay, newYearWeekday, newYearJulian, molad, yearDays, AllHold, done, _and_, daysToCheck}
 
 -- The answer of either route, from the closed month count.
-abbrev parts : ℕ → ℕ
-parts h = moladAfter ((235 * h - 234) / 19)
-
 abbrev worked : ℕ → NewYearAnswer
-worked h = newYearOn (quick h) (parts h / partsInDay) (parts h % partsInDay)
+worked h = newYearOn (quick h) (quickParts h / partsInDay) (quickParts h % partsInDay) (quickDelay h)
 
 counted : (h : ℕ) → InNewYears h → newYearAnswer h ≡ worked h
 unfolding newYearAnswer
 counted h y =
-    rw (let-pass (ranged 1 lastNewYear h) y, newYear-quick h (y .0), tishri-day h, tishri-time h, months-closed h (y .0))
+    rw (let-pass (ranged 1 lastNewYear h) y, newYear-quick h (y .0), delayIn-quick h (y .0), tishri-day h, tishri-time h, months-closed h (y .0))
 
 both : (h : ℕ) → InNewYears h → (Says : NewYearAnswer → Type 0) → Says (worked h) → BothRoutes h Says
 both h y Says p = rw (same-answer h, counted h y) ((refl, p), (refl, p))
@@ -57,8 +54,8 @@ weekday-row : (h w : ℕ) → InNewYears h → weekday (quick h) ≡ w → Holds
 weekday-row h w y e = both h y (λ r. r .weekday ≡ w) e
 
 molad-row :
-    (h w hour part : ℕ) → InNewYears h → weekdayAnswer (parts h / partsInDay) ≡ record { refusal = 0; weekday = w } →
-    parts h % partsInDay / partsInHour ≡ hour → parts h % partsInDay % partsInHour ≡ part → Holds (molad h w hour part)
+    (h w hour part : ℕ) → InNewYears h → weekdayAnswer (quickParts h / partsInDay) ≡ record { refusal = 0; weekday = w } →
+    quickParts h % partsInDay / partsInHour ≡ hour → quickParts h % partsInDay % partsInHour ≡ part → Holds (molad h w hour part)
 molad-row h w hour part y e f g =
     both h y (λ r. (weekdayAnswer (r .«molad_day») ≡ record { refusal = 0; weekday = w }) × ((r .«molad_hour» ≡ hour) × (r .«molad_part» ≡ part)))
     (e, (f, g))

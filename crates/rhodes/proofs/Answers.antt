@@ -7,16 +7,18 @@ use Rattle.newyear.specs.NewYear.{newYear}
 use Rattle.newyear.specs.Answers.{newYearAnswer}
 use Rattle.newyear.specs.declared.NewYearAnswer.{NewYearAnswer}
 use Rattle.newyear.specs.Promises.{PromisedNewYear}
-use Rattle.newyear.proofs.Answers.{on-promised, new-year-promised}
-use Rattle.rhodes.specs.Rhodes.{rhodesNewYear, rhodesMoladDay, rhodesMoladTime}
+use Rattle.newyear.proofs.Answers.{on-promised, because, new-year-promised}
+use Rattle.rhodes.specs.Rhodes.{rhodesDelay, rhodesNewYear, rhodesMoladDay, rhodesMoladTime}
 use Rattle.rhodes.specs.Answers.{rhodesAnswer}
 use Rattle.rhodes.specs.Steps.{routeOf, IsRoute}
 use Rattle.rhodes.specs.declared.steps.Route.{Route}
-use Rattle.rhodes.proofs.Same.{same-answer}
+use Rattle.rhodes.proofs.Same.{same-route, same-answer}
 
 pub new-year-rhodes-promised : (h : ℕ) → PromisedNewYear h (rhodesNewYear h) (rhodesMoladDay h) (rhodesMoladTime h) (rhodesAnswer h)
 unfolding rhodesAnswer
-new-year-rhodes-promised h = on-promised h (rhodesNewYear h) (rhodesMoladDay h) (rhodesMoladTime h)
+new-year-rhodes-promised h =
+    on-promised h (rhodesNewYear h) (rhodesMoladDay h) (rhodesMoladTime h) (rhodesDelay h)
+    (λ y. let s = same-route h (y .0) (y .1) in rw (s .0 .0, s .0 .1, s .1 .0, s .1 .1) (because h))
 
 pub new-year-rhodes-counted : (h : ℕ) → PromisedNewYear h (newYear h) (moladDay h 1) (moladTime h 1) (rhodesAnswer h)
 new-year-rhodes-counted h = rw (same-answer h) (new-year-promised h)

@@ -1,18 +1,19 @@
 -- The delays of the two routes agree, for every weekday and every time of the day.
-use mathlib.Core.Path.{_≡_, refl, ap}
-use mathlib.Core.Bool.{Bool, true, false, not, cond, _&&_, and-true, and-false}
-use mathlib.Core.List.{[], _∷_}
+use mathlib.Core.Path.{_≡_, refl}
+use mathlib.Core.Bool.{Bool, true, false, not, cond, _&&_, and-false}
+use mathlib.Core.List.{List, [], _∷_}
 use mathlib.Core.Logic.{by-cases}
-use Prim.Native.Nat.{ℕ, zero, suc, _+_, _-_, _%_, _≤_, _<_}
+use Prim.Native.Nat.{ℕ, _+_, _-_, _%_, _≤_, _<_}
 use native.Mathlib.Omega.{arith}
-use native.Mathlib.Nat.{add-zero, zero-add}
 use native.Mathlib.Decide.{decLe}
 use lib.Dec.{eqb, leb, ltb}
-use borrow.Author.Tests.{le-leb, lt-leb, le-ltb, lt-ltb}
-use Rattle.laws.specs.Runs.{elem}
-use Rattle.laws.proofs.Tests.{cond-le}
-use Rattle.newyear.specs.Delays.{delay, noonStep, weekdayStep, tuesdayRule, mondayRule}
-use Rattle.rhodes.specs.Rhodes.{pastNoon, mondayLine, tuesdayLine, lateBy}
+use borrow.Author.Tests.{eqb-true, le-leb, lt-leb, le-ltb, lt-ltb}
+use Rattle.laws.specs.Runs.{every, eitherWay, elem}
+use Rattle.laws.proofs.Tests.{and-left, and-right, cond-le, at, whether, all, Each, facts}
+use Rattle.newyear.specs.Delays.{closed, delayed}
+use Rattle.newyear.specs.declared.delays.Delayed.{Delayed}
+use Rattle.newyear.proofs.Late.{byTimes, by-times}
+use Rattle.rhodes.specs.Rhodes.{moladAugust, moladPart, pastNoon, noonAugust, mondayLine, tuesdayLine, lateBy, delayOf, causeBy, rhodesDelay}
 
 -- After the noon step neither the Monday nor the Tuesday line can fire.
 pub after-noon : (n w t : ℕ) → t < 25920 → (mondayLine n w (t - 19440) ≡ false) × (tuesdayLine n w (t - 19440) ≡ false)
@@ -22,49 +23,57 @@ after-noon n w t u = (
   rw (lt-leb 9924 (t - 19440) (omega arith)) (simp and-false),
 )
 
--- Before noon the rules of one route are the lines of the other, on each weekday; 8 is the Sunday after a Saturday. p and
--- q say whether the time is past the two limits.
-abbrev byRules : ℕ → Bool → Bool → ℕ → ℕ
-byRules n p q w =
-    cond (ltb 6 n && eqb w 3 && p) 2
-    (cond (ltb 11 n && eqb w 2 && q) 1
-    (cond (elem ((w + 6) % 7 + 1) (1 ∷ 4 ∷ 6 ∷ [])) 1 0))
+-- The whole delay by what her lines say: whether there was a noon step, and whether the Monday and the Tuesday line fire.
+abbrev byLines : Bool → ℕ → Bool → Bool → Delayed
+byLines stepped w monday tuesday =
+    record {
+      delay = cond stepped 1 0 + cond (elem w (1 ∷ 4 ∷ 6 ∷ [])) 1 (cond monday 1 (cond tuesday 2 0));
+      cause = cond (elem w (1 ∷ 4 ∷ 6 ∷ [])) (cond stepped 3 2) (cond monday 5 (cond tuesday 4 (cond stepped 1 0)));
+    }
 
-abbrev byLines : ℕ → Bool → Bool → ℕ → ℕ
-byLines n p q w =
-    cond (elem (w % 7) (1 ∷ 4 ∷ 6 ∷ [])) 1
-    (cond (eqb (w % 7) 2 && ltb 11 n && q) 1
-    (cond (eqb (w % 7) 3 && ltb 6 n && p) 2 0))
+alike : Delayed → Delayed → Bool
+alike a b = eqb (a .delay) (b .delay) && eqb (a .cause) (b .cause)
 
-ruleset tidy = (and-true, and-false)
+are-alike : (a b : Delayed) → alike a b ≡ true → a ≡ b
+unfolding alike
+are-alike a b e =
+    let d = eqb-true (a .delay) (b .delay) (and-left _ _ e) in
+    let c = eqb-true (a .cause) (b .cause) (and-right (eqb (a .delay) (b .delay)) _ e) in λ i. record { delay = d i; cause = c i }
 
-agree : (n : ℕ) (p q : Bool) (w : ℕ) → 1 ≤ w → w ≤ 8 → byRules n p q w ≡ byLines n p q w
-agree n p q zero l u = absurd (omega arith)
-agree n p q (suc zero) l u = simp tidy
-agree n p q (suc (suc zero)) l u = simp tidy
-agree n p q (suc (suc (suc zero))) l u = simp tidy
-agree n p q (suc (suc (suc (suc zero)))) l u = simp tidy
-agree n p q (suc (suc (suc (suc (suc zero))))) l u = simp tidy
-agree n p q (suc (suc (suc (suc (suc (suc zero)))))) l u = simp tidy
-agree n p q (suc (suc (suc (suc (suc (suc (suc zero))))))) l u = simp tidy
-agree n p q (suc (suc (suc (suc (suc (suc (suc (suc zero)))))))) l u = simp tidy
-agree n p q (suc (suc (suc (suc (suc (suc (suc (suc (suc w))))))))) l u = absurd (omega arith)
+-- The two routes on one weekday, from noon on and before it: common year, after a leap year, past the two limits.
+tests : ℕ → Bool → Bool → Bool → Bool → List Bool
+tests w common afterLeap nine fifteen =
+    let early = (w + 0) % 7 in
+    alike (byTimes w common afterLeap nine fifteen false) (byLines true ((w + 1) % 7) false false)
+    ∷ alike (byTimes w common afterLeap nine fifteen true) (byLines false early (eqb early 2 && afterLeap && fifteen) (eqb early 3 && common && nine)) ∷ []
+
+tests-all : every 1 7 (λ w. eitherWay (λ a. eitherWay (λ b. eitherWay (λ c. eitherWay (λ d. all (tests w a b c d)))))) ≡ true
+unfolding every eitherWay tests alike closed
+tests-all = refl
+
+passed : (w : ℕ) → 1 ≤ w → w ≤ 7 → (a b c d : Bool) → Each (tests w a b c d)
+passed w l u a b c d =
+    facts (tests w a b c d) (whether _ (whether _ (whether _ (whether _ (at 1 7 _ tests-all w l (omega arith)) a) b) c) d)
+
+-- Her delay, after a noon step of d days, and the cause of the whole.
+abbrev pub herDelay : ℕ → Bool → ℕ → ℕ → ℕ → Delayed
+herDelay d stepped n w f = record { delay = d + lateBy n w f; cause = causeBy stepped n w f }
 
 module _ (isLeap afterLeap : Bool) (n w t : ℕ) (c : not isLeap ≡ ltb 6 n) (a : afterLeap ≡ ltb 11 n) (l : 1 ≤ w) (u : w ≤ 7) where
   -- From noon on.
-  pub same-late-after : 19440 ≤ t → t < 25920 → delay w t isLeap afterLeap ≡ 1 + lateBy n ((w + 1) % 7) (t - 19440)
-  unfolding delay noonStep weekdayStep tuesdayRule mondayRule lateBy
+  pub same-late-after : 19440 ≤ t → t < 25920 → delayed w t isLeap afterLeap ≡ herDelay 1 true n ((w + 1) % 7) (t - 19440)
+  unfolding tests lateBy causeBy
   same-late-after p b =
       let k = after-noon n ((w + 1) % 7) t b in
-      rw (le-leb 19440 t p, le-ltb t 19440 p, k .0, k .1)
-      (simp and-false (ap (λ (x : ℕ). 1 + x) (simp and-false at (agree n false false (w + 1) (omega arith) (omega arith)))))
+      rw (by-times w t isLeap afterLeap, le-ltb t 19440 p, k .0, k .1)
+      (are-alike _ _ (passed w l u (not isLeap) afterLeap (leb 9924 t) (leb 16789 t) .0))
 
   -- Before noon.
-  pub same-late-before : t < 19440 → delay w t isLeap afterLeap ≡ 0 + lateBy n ((w + 0) % 7) t
-  unfolding delay noonStep weekdayStep tuesdayRule mondayRule lateBy mondayLine tuesdayLine
+  pub same-late-before : t < 19440 → delayed w t isLeap afterLeap ≡ herDelay 0 false n ((w + 0) % 7) t
+  unfolding tests lateBy causeBy mondayLine tuesdayLine
   same-late-before p =
-      rw (lt-leb 19440 t p, lt-ltb t 19440 p, c, a)
-      (simp (and-true, zero-add, add-zero) (agree n (leb 9924 t) (leb 16789 t) w l (omega arith)))
+      rw (by-times w t isLeap afterLeap, lt-ltb t 19440 p, c, a)
+      (are-alike _ _ (passed w l u (ltb 6 n) (ltb 11 n) (leb 9924 t) (leb 16789 t) .1 .0))
 
 -- Each line fires at its very limit, and not one part earlier, nor one place in the cycle.
 pub at-her-limits :
@@ -88,3 +97,17 @@ noon-part t =
     by-cases (decLe 19440 t)
     (λ p. rw (le-leb 19440 t p) (p, refl))
     (λ p. rw (lt-leb 19440 t (omega arith)) (omega arith))
+
+-- It does not go back.
+pub noon-step : (h : ℕ) → moladAugust h ≤ noonAugust h
+unfolding noonAugust
+noon-step h = step (pastNoon (moladPart h))
+  where
+    step : (b : Bool) → moladAugust h ≤ cond b (moladAugust h + 1) (moladAugust h)
+    step true = omega arith
+    step false = omega arith
+
+-- The whole delay leads from the molad's day of August to New Year's.
+pub whole-delay : (h : ℕ) → noonAugust h + delayOf h ≡ moladAugust h + rhodesDelay h .delay
+unfolding rhodesDelay
+whole-delay h = omega (arith, noon-step h)

@@ -7,6 +7,8 @@ use Prim.Native.Nat.{ℕ, _+_, _*_, _-_, _/_, _%_}
 use lib.Dec.{eqb, ltb, leb}
 use Rattle.laws.specs.Runs.{elem}
 use Rattle.civil.specs.Calendar.{dayOf, julian}
+use Rattle.newyear.specs.Delays.{noCause, noonCause, weekdayCause, noonThenWeekday, tuesdayCause, mondayCause}
+use Rattle.newyear.specs.declared.delays.Delayed.{Delayed}
 
 -- n = (12H + 5) mod 19: the year's place in the cycle of 19 years, in the order in which their molads come in August.
 unfoldable pub place : ℕ → ℕ
@@ -59,6 +61,23 @@ lateBy n w f =
 
 unfoldable pub delayOf : ℕ → ℕ
 delayOf h = lateBy (place h) (weekdayOfAugust h (noonAugust h)) (noonPart h)
+
+-- Which of these steps it was, as document 02 numbers the causes: that of w alone is the weekday's, or noon's and then the
+-- weekday's if there was a noon step; then the lines of Monday and of Tuesday; else the noon step alone, or none.
+unfoldable pub causeBy : Bool → ℕ → ℕ → ℕ → ℕ
+causeBy stepped n w f =
+    cond (elem w (1 ∷ 4 ∷ 6 ∷ [])) (cond stepped noonThenWeekday weekdayCause)
+    (cond (mondayLine n w f) mondayCause
+    (cond (tuesdayLine n w f) tuesdayCause
+    (cond stepped noonCause noCause)))
+
+-- From the molad's day of August, i', to New Year's, i + delay: so the noon step counts.
+unfoldable pub rhodesDelay : ℕ → Delayed
+rhodesDelay h =
+    record {
+      delay = noonAugust h + delayOf h - moladAugust h;
+      cause = causeBy (pastNoon (moladPart h)) (place h) (weekdayOfAugust h (noonAugust h)) (noonPart h);
+    }
 
 -- The day number of a day of August of Julian year H − 3761, counted on past 31. `civil` counts it, in years raised by
 -- 4000.

@@ -25,10 +25,13 @@ pub fn new_year_rhodes(year: u64) -> newyear::NewYearAnswer
             molad_day: 0,
             molad_hour: 0,
             molad_part: 0,
+            delay: 0,
+            cause: 0,
         };
     }
     let route = route_of(year);
-    let day = day_of_august(year, route.august + route.delay);
+    let august = route.august + route.delay;
+    let day = day_of_august(year, august);
     newyear::NewYearAnswer {
         refusal: 0,
         day,
@@ -36,5 +39,7 @@ pub fn new_year_rhodes(year: u64) -> newyear::NewYearAnswer
         molad_day: day_of_august(year, route.molad_august),
         molad_hour: route.molad_part / 1080,
         molad_part: route.molad_part % 1080,
+        delay: august - route.molad_august,
+        cause: route.cause,
     }
 }

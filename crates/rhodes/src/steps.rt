@@ -1,9 +1,6 @@
 // Rhodes' steps, in numbers that stay below 2³².
-ghost use mathlib.Core.Path.{_≡_};
-ghost use Prim.Native.Nat.{_≤_};
 ghost use Rattle.molad.specs.Years.{InNewYears};
-ghost use Rattle.rhodes.specs.Rhodes.{lateBy};
-ghost use Rattle.rhodes.specs.Steps.{IsRoute};
+ghost use Rattle.rhodes.specs.Steps.{IsLate, IsRoute};
 
 pub struct Route {
     // n, the year's place in the cycle of 19 years.
@@ -20,20 +17,33 @@ pub struct Route {
     pub part: u64,
     // w, Saturday being 0.
     pub weekday: u64,
+    // Her delay, from i on.
     pub delay: u64,
+    // That of the whole delay, from i' on.
+    pub cause: u64,
 }
 
-// The delay by n, w and f, for all of them.
-pub fn late_by(place: u64, weekday: u64, part: u64) -> u64
-    ensures { λ r. ⌜ (r ≡ lateBy place weekday part) × (r ≤ 2) ⌝ }
+pub struct Late {
+    pub delay: u64,
+    pub cause: u64,
+}
+
+// The delay by n, w and f, for all of them, and its cause, to which the noon step belongs.
+pub fn late_by(past_noon: bool, place: u64, weekday: u64, part: u64) -> Late
+    ensures { λ r. ⌜ IsLate «past_noon» place weekday part r ⌝ }
 {
-    let tuesday = laws::pick((weekday == 3) & (6 < place) & (9924 <= part), 2, 0);
-    let monday = laws::pick((weekday == 2) & (11 < place) & (16789 <= part), 1, tuesday);
-    laws::pick(
-        (weekday == 1) | ((weekday == 4) | (weekday == 6)),
-        1,
-        monday,
-    )
+    let closed = (weekday == 1) | ((weekday == 4) | (weekday == 6));
+    let monday = (weekday == 2) & (11 < place) & (16789 <= part);
+    let tuesday = (weekday == 3) & (6 < place) & (9924 <= part);
+    let noon = laws::pick(past_noon, 1, 0);
+    Late {
+        delay: laws::pick(closed, 1, laws::pick(monday, 1, laws::pick(tuesday, 2, 0))),
+        cause: laws::pick(
+            closed,
+            noon + 2,
+            laws::pick(monday, 5, laws::pick(tuesday, 4, noon)),
+        ),
+    }
 }
 
 // A step, for the years 1 to 10,000.
@@ -50,6 +60,7 @@ pub fn route_of(year: u64) -> Route
     let august = laws::pick(past_noon, molad_august + 1, molad_august);
     let part = molad_part - laws::pick(past_noon, 19440, 0);
     let weekday = (august + 1 + 5 * since_leap + 3 * year) % 7;
+    let late = late_by(past_noon, place, weekday, part);
     Route {
         place,
         since_leap,
@@ -59,6 +70,7 @@ pub fn route_of(year: u64) -> Route
         august,
         part,
         weekday,
-        delay: late_by(place, weekday, part),
+        delay: late.delay,
+        cause: late.cause,
     }
 }

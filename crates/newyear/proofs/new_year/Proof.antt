@@ -17,4 +17,4 @@ new-year-spec =
     (λ c.
     let t = c .before .before in
     let e = t .begins .ensures in
-    rw (t .before .if1 .left, e .day, e .on, e .molad-day, e .molad-time)))
+    rw (t .before .if1 .left, e .day, e .on, e .molad-day, e .molad-time, e .delay, e .cause)))

@@ -2,7 +2,7 @@ use borrow.Author.Needs.{needs}
 use native.Mathlib.Omega.{arith}
 use Rattle.laws.proofs.Tests.{within}
 use Rattle.molad.specs.Years.{lastNewYear, InNewYears}
-use Rattle.rhodes.specs.Rhodes.{rhodesNewYear, rhodesMoladDay, rhodesMoladTime}
+use Rattle.rhodes.specs.Rhodes.{rhodesDelay, rhodesNewYear, rhodesMoladDay, rhodesMoladTime}
 use Rattle.rhodes.specs.Answers.{rhodesAnswer}
 use Rattle.rhodes.specs.Steps.{routeOf}
 use Rattle.rhodes.proofs.new_year_rhodes.Statement.{statement}
@@ -12,9 +12,9 @@ good : (c : tie.Else1) → InNewYears (c .before .args .year)
 good c = within 1 lastNewYear (c .before .args .year) (c .if1 .left)
 
 returns-2 : tie.Need-returns-2
-unfolding rhodesAnswer routeOf rhodesNewYear rhodesMoladDay rhodesMoladTime
+unfolding rhodesAnswer routeOf rhodesNewYear rhodesMoladDay rhodesMoladTime rhodesDelay
 returns-2 c =
-    let m = c .before .before in
+    let m = c .before .before .before in
     let w = m .before in
     let d = w .before in
     let r = d .before .before in
@@ -31,4 +31,5 @@ new-year-rhodes-spec =
     (λ c κs. let g = good (c .before .before) in omega arith)
     (search needs)
     (λ c κs. let g = good (c .before .before .before .before) in omega arith)
+    (search needs)
     returns-2)

@@ -3,9 +3,9 @@ use borrow.Author.Needs.{needs}
 use Prim.Native.Nat.{_+_}
 use native.Mathlib.Omega.{arith}
 use Rattle.laws.proofs.Tests.{cond-le}
-use Rattle.rhodes.specs.Rhodes.{place, sinceLeap, distance, moladAugust, moladPart, pastNoon, noonAugust, noonPart, weekdayOfAugust, delayOf}
+use Rattle.rhodes.specs.Rhodes.{place, sinceLeap, distance, moladAugust, moladPart, pastNoon, noonAugust, noonPart, weekdayOfAugust, delayOf, rhodesDelay}
 use Rattle.rhodes.specs.Steps.{routeOf}
-use Rattle.rhodes.proofs.Late.{noon-part}
+use Rattle.rhodes.proofs.Late.{noon-part, noon-step}
 use Rattle.rhodes.proofs.steps.route_of.Statement.{statement}
 use Rattle.rhodes.proofs.steps.route_of.Tie as tie
 
@@ -14,17 +14,18 @@ unfolding pastNoon
 sub-part c = rw (c .pick2 .ensures .0) (noon-part _ .0)
 
 returns : tie.Need-returns
-unfolding routeOf place sinceLeap distance moladAugust moladPart pastNoon noonAugust noonPart weekdayOfAugust delayOf
+unfolding routeOf place sinceLeap distance moladAugust moladPart pastNoon noonAugust noonPart weekdayOfAugust delayOf rhodesDelay
 returns c =
     let n = c .before .before in
     let h = n .before .args .year in
-    let i = moladAugust h in (
-      rw (c .late-by .ensures .0, c .before .pick2 .ensures .0, n .pick .ensures .0, noon-part _ .1),
+    let i = moladAugust h in
+    let e = c .late-by .ensures in (
+      rw (e .0 .0, e .1, c .before .pick2 .ensures .0, n .pick .ensures .0, noon-part _ .1),
       (
-        omega arith,
+        rw (n .pick .ensures .0) (noon-step h),
         (
           rw (n .pick .ensures .0) (cond-le (pastNoon (moladPart h)) (i + 1) i 71 (omega arith) (omega arith)),
-          c .late-by .ensures .1,
+          e .0 .1,
         ),
       ),
     )
