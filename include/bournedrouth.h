@@ -35,9 +35,9 @@
  * Within a major version no call, struct, field, number or answer that stands here changes or goes, and a program that
  * was built with an earlier minor version builds and is answered as it was. A minor version adds.
  */
-#define BD_VERSION_MAJOR 1
-#define BD_VERSION_MINOR 1
-#define BD_VERSION "1.1"
+#define BD_VERSION_MAJOR 2
+#define BD_VERSION_MINOR 0
+#define BD_VERSION "2.0"
 
 #ifdef __cplusplus
 extern "C" {
@@ -91,6 +91,19 @@ enum bd_month_code {
     BD_TAMMUZ = 11,
     BD_AV = 12,
     BD_ELUL = 13
+};
+
+/*
+ * Why New Year comes after the day of Tishri's molad. The day of the molad begins at 18:00 the evening before, and noon
+ * is 18 hours later; where noon and the weekday both delay it, the weekday is that of the day after noon's.
+ */
+enum bd_cause {
+    BD_CAUSE_NONE = 0,              /* it does not: New Year is the day of the molad */
+    BD_CAUSE_NOON = 1,              /* the molad is at noon or later: 1 day */
+    BD_CAUSE_WEEKDAY = 2,           /* New Year is no Sunday, Wednesday or Friday: 1 day */
+    BD_CAUSE_NOON_THEN_WEEKDAY = 3, /* both: 2 days */
+    BD_CAUSE_TUESDAY = 4,           /* common year, molad on a Tuesday from 9 h 204 p to noon: 2 days */
+    BD_CAUSE_MONDAY = 5             /* year after a leap year, molad on a Monday from 15 h 589 p to noon: 1 day */
 };
 
 /* ---- Days and civil dates ---- */
@@ -152,6 +165,8 @@ typedef struct bd_new_year_answer {
     uint64_t molad_day; /* the molad of Tishri, as in bd_molad_answer */
     uint64_t molad_hour;
     uint64_t molad_part;
+    uint64_t delay; /* day less molad_day: 0, 1 or 2 */
+    uint64_t cause; /* why, an enum bd_cause */
 } bd_new_year_answer;
 
 typedef struct bd_year_answer {
@@ -160,6 +175,8 @@ typedef struct bd_year_answer {
     uint64_t weekday; /* of that day */
     uint64_t length; /* 353, 354, 355, 383, 384 or 385 days */
     uint64_t months; /* 12 or 13 */
+    uint64_t delay; /* as in bd_new_year_answer */
+    uint64_t cause;
 } bd_year_answer;
 
 typedef struct bd_year_of_day_answer {
@@ -173,13 +190,13 @@ bd_molad_answer bd_molad(uint64_t year, uint64_t month);
 /* What the molad notice shows for a month: the molad on the clock, beside its own Hebrew day. Refusals: 1, 2. */
 bd_notice_answer bd_notice(uint64_t year, uint64_t month);
 
-/* The day on which a year begins, 1..10,000, and the molad of its Tishri. Refusal: 1. */
+/* The day on which a year begins, 1..10,000, the molad of its Tishri, and why it comes so long after it. Refusal: 1. */
 bd_new_year_answer bd_new_year(uint64_t year);
 
 /* The same by Rhodes' closed formula, which counts no months. Refusal: 1. */
 bd_new_year_answer bd_new_year_rhodes(uint64_t year);
 
-/* The first day, the length and the number of months of a year. Refusal: 1. */
+/* The first day, the length and the number of months of a year, and why it begins on that day. Refusal: 1. */
 bd_year_answer bd_year(uint64_t year);
 
 /* The Hebrew year that holds a day. Refusal: 4. */

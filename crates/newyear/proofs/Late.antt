@@ -15,6 +15,16 @@ use Rattle.newyear.specs.Delays.{tuesdayRule, mondayRule, fromNoon, clos
 use Rattle.newyear.specs.Promises.{Explained}
 use Rattle.newyear.specs.declared.delays.Delayed.{Delayed}
 
+-- Two delays with the same days and the same cause.
+unfoldable pub alike : Delayed → Delayed → Bool
+alike a b = eqb (a .delay) (b .delay) && eqb (a .cause) (b .cause)
+
+pub are-alike : (a b : Delayed) → alike a b ≡ true → a ≡ b
+unfolding alike
+are-alike a b e =
+    let d = eqb-true (a .delay) (b .delay) (and-left _ _ e) in
+    let c = eqb-true (a .cause) (b .cause) (and-right (eqb (a .delay) (b .delay)) _ e) in λ i. record { delay = d i; cause = c i }
+
 -- The delay by what the rules say: whether the Tuesday and the Monday rule apply, whether it is noon or later, and whether
 -- the next day and the day itself are left out.
 abbrev pub byRules : Bool → Bool → Bool → Bool → Bool → Delayed

@@ -9,16 +9,17 @@ const TUESDAY_LIMIT: u64 = 9 * 1080 + 204;
 
 const MONDAY_LIMIT: u64 = 15 * 1080 + 589;
 
-// Bits 1, 4, 6 and 8: Sunday, Wednesday, Friday, and the Sunday after a Saturday.
-const CLOSED_DAYS: u64 = 338;
+// The days from the molad's day to New Year, and the cause: by the molad's weekday before noon, and by 8 more from noon on.
+// No weekday has 0 or 8, which are the places of the Tuesday and the Monday rule.
+const DELAYS: [u8; 16] = [2, 1, 0, 0, 1, 0, 1, 0, 1, 1, 1, 2, 1, 2, 1, 2];
 
-// The causes: 0 none, 1 noon, 2 the weekday, so that 3 is noon and then the weekday; and the two rules.
-const TUESDAY_RULE: u64 = 4;
+const CAUSES: [u8; 16] = [4, 2, 0, 0, 2, 0, 2, 0, 5, 1, 1, 3, 1, 3, 1, 3];
 
-const MONDAY_RULE: u64 = 5;
+const TUESDAY_RULE: u64 = 0;
+
+const MONDAY_RULE: u64 = 8;
 
 pub struct Delayed {
-    // The days from the molad's day to New Year.
     pub delay: u64,
     pub cause: u64,
 }
@@ -29,16 +30,19 @@ pub fn delay(weekday: u64, time: u64, leap: bool, after_leap: bool) -> Delayed
     requires { ⌜ (1 ≤ weekday) × (weekday ≤ 7) ⌝ }
     ensures { λ r. ⌜ IsDelay weekday time leap «after_leap» r ⌝ }
 {
-    let noon = laws::pick(NOON <= time, 1, 0);
-    let closed = (CLOSED_DAYS >> (weekday + noon)) % 2;
-    let monday = after_leap & (weekday == 2) & (MONDAY_LIMIT <= time) & (time < NOON);
-    let tuesday = !leap & (weekday == 3) & (TUESDAY_LIMIT <= time) & (time < NOON);
+    let usual = laws::pick(NOON <= time, weekday + 8, weekday);
+    let monday = laws::pick(
+        after_leap & (weekday == 2) & (MONDAY_LIMIT <= time) & (time < NOON),
+        MONDAY_RULE,
+        usual,
+    );
+    let place = laws::pick(
+        !leap & (weekday == 3) & (TUESDAY_LIMIT <= time) & (time < NOON),
+        TUESDAY_RULE,
+        monday,
+    ) as usize;
     Delayed {
-        delay: laws::pick(tuesday, 2, laws::pick(monday, 1, noon + closed)),
-        cause: laws::pick(
-            tuesday,
-            TUESDAY_RULE,
-            laws::pick(monday, MONDAY_RULE, noon + 2 * closed),
-        ),
+        delay: DELAYS[place] as u64,
+        cause: CAUSES[place] as u64,
     }
 }

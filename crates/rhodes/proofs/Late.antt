@@ -7,12 +7,12 @@ use Prim.Native.Nat.{ℕ, _+_, _-_, _%_, _≤_, _<_}
 use native.Mathlib.Omega.{arith}
 use native.Mathlib.Decide.{decLe}
 use lib.Dec.{eqb, leb, ltb}
-use borrow.Author.Tests.{eqb-true, le-leb, lt-leb, le-ltb, lt-ltb}
+use borrow.Author.Tests.{le-leb, lt-leb, le-ltb, lt-ltb}
 use Rattle.laws.specs.Runs.{every, eitherWay, elem}
-use Rattle.laws.proofs.Tests.{and-left, and-right, cond-le, at, whether, all, Each, facts}
+use Rattle.laws.proofs.Tests.{cond-le, at, whether, all, Each, facts}
 use Rattle.newyear.specs.Delays.{closed, delayed}
 use Rattle.newyear.specs.declared.delays.Delayed.{Delayed}
-use Rattle.newyear.proofs.Late.{byTimes, by-times}
+use Rattle.newyear.proofs.Late.{alike, are-alike, byTimes, by-times}
 use Rattle.rhodes.specs.Rhodes.{moladAugust, moladPart, pastNoon, noonAugust, mondayLine, tuesdayLine, lateBy, delayOf, causeBy, rhodesDelay}
 
 -- After the noon step neither the Monday nor the Tuesday line can fire.
@@ -30,15 +30,6 @@ byLines stepped w monday tuesday =
       delay = cond stepped 1 0 + cond (elem w (1 ∷ 4 ∷ 6 ∷ [])) 1 (cond monday 1 (cond tuesday 2 0));
       cause = cond (elem w (1 ∷ 4 ∷ 6 ∷ [])) (cond stepped 3 2) (cond monday 5 (cond tuesday 4 (cond stepped 1 0)));
     }
-
-alike : Delayed → Delayed → Bool
-alike a b = eqb (a .delay) (b .delay) && eqb (a .cause) (b .cause)
-
-are-alike : (a b : Delayed) → alike a b ≡ true → a ≡ b
-unfolding alike
-are-alike a b e =
-    let d = eqb-true (a .delay) (b .delay) (and-left _ _ e) in
-    let c = eqb-true (a .cause) (b .cause) (and-right (eqb (a .delay) (b .delay)) _ e) in λ i. record { delay = d i; cause = c i }
 
 -- The two routes on one weekday, from noon on and before it: common year, after a leap year, past the two limits.
 tests : ℕ → Bool → Bool → Bool → Bool → List Bool

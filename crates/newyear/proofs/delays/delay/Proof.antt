@@ -1,65 +1,65 @@
--- Straight line: each `pick` is a `cond`, and the bits of 338 are the weekdays that New Year leaves out.
+-- Straight line: each `pick` is a `cond`, and the entries at the place picked are what the rules say.
 use borrow.Author.Needs.{needs}
 use mathlib.Core.Path.{_≡_, refl, ap}
-use mathlib.Core.Bool.{Bool, true, false, cond}
-use Prim.Native.Nat.{ℕ, _+_, _*_, _/_, _%_, _^_, _≤_}
+use mathlib.Core.Bool.{Bool, true, cond}
+use mathlib.Core.List.{List, [], _∷_}
+use Prim.Native.Nat.{ℕ, _+_, _≤_, _<_}
 use native.Mathlib.Omega.{arith}
-use native.Mathlib.Nat.{add-zero}
-use lib.Dec.{eqb, leb}
-use Rattle.laws.specs.Runs.{every}
-use Rattle.laws.proofs.Tests.{equal}
-use Rattle.newyear.specs.Delays.{tuesdayRule, mondayRule, fromNoon, closed, _daysBy_, delayed}
+use lib.Dec.{ltb, leb}
+use lib.ListN.{getD}
+use borrow.Author.Tests.{ltb-true, leb-true}
+use Rattle.laws.specs.Runs.{every, eitherWay}
+use Rattle.laws.proofs.Tests.{at, whether, all, Each, facts}
+use Rattle.newyear.specs.Delays.{tuesdayRule, mondayRule, fromNoon, closed, delayed}
 use Rattle.newyear.specs.declared.delays.Delayed.{Delayed}
-use Rattle.newyear.proofs.Late.{byRules, at-most-two}
+use Rattle.newyear.proofs.Late.{alike, are-alike, byRules, at-most-two}
 use Rattle.newyear.proofs.delays.delay.Statement.{statement}
 use Rattle.newyear.proofs.delays.delay.Tie as tie
 
-bits-all : every 1 8 (λ x. eqb (338 / 2 ^ x % 2) (cond (closed x) 1 0)) ≡ true
-unfolding every closed
-bits-all = refl
+abbrev place : ℕ → Bool → Bool → Bool → ℕ
+place w tuesday monday noon = cond tuesday 0 (cond monday 8 (cond noon (w + 8) w))
 
-bits : (x : ℕ) → 1 ≤ x → x ≤ 8 → 338 / 2 ^ x % 2 ≡ cond (closed x) 1 0
-bits x l u = equal 1 8 (λ x. 338 / 2 ^ x % 2) (λ x. cond (closed x) 1 0) bits-all x l (omega arith)
+abbrev delays : List ℕ
+delays = 2 ∷ 1 ∷ 0 ∷ 0 ∷ 1 ∷ 0 ∷ 1 ∷ 0 ∷ 1 ∷ 1 ∷ 1 ∷ 2 ∷ 1 ∷ 2 ∷ 1 ∷ 2 ∷ []
 
--- Noon's day n and the weekday's day make up the delay; in the cause the weekday's counts twice.
-abbrev added : Bool → Bool → ℕ → ℕ → Delayed
-added tuesday monday n w =
-    record {
-      delay = cond tuesday 2 (cond monday 1 (n + cond (closed (w + n)) 1 0));
-      cause = cond tuesday 4 (cond monday 5 (n + 2 * cond (closed (w + n)) 1 0));
-    }
+abbrev causes : List ℕ
+causes = 4 ∷ 2 ∷ 0 ∷ 0 ∷ 2 ∷ 0 ∷ 2 ∷ 0 ∷ 5 ∷ 1 ∷ 1 ∷ 3 ∷ 1 ∷ 3 ∷ 1 ∷ 3 ∷ []
 
-add-up : (tuesday monday noon : Bool) (w : ℕ) → added tuesday monday (cond noon 1 0) w ≡ byRules tuesday monday noon (closed (w + 1)) (closed w)
-add-up true monday noon w = refl
-add-up false true noon w = refl
-add-up false false true w = after (closed (w + 1))
-  where
-    after : (b : Bool) → _≡_ {A = Delayed} (record { delay = 1 + cond b 1 0; cause = 1 + 2 * cond b 1 0 }) (cond b (2 daysBy 3) (1 daysBy 1))
-    after true = refl
-    after false = refl
-add-up false false false w = rw (add-zero w) (on (closed w))
-  where
-    on : (b : Bool) → _≡_ {A = Delayed} (record { delay = 0 + cond b 1 0; cause = 0 + 2 * cond b 1 0 }) (cond b (1 daysBy 2) (0 daysBy 0))
-    on true = refl
-    on false = refl
+abbrev entries : ℕ → Delayed
+entries i = record { delay = getD delays i 0; cause = getD causes i 0 }
 
-same :
-    (c : tie.After-pick5) →
-    let a = c .before .before .before .before .before .args in
-    _≡_ {A = Delayed} (record { delay = c .before .before .pick3 .result; cause = c .pick5 .result }) (delayed (a .weekday) (a .time) (a .leap) (a .after-leap))
-unfolding delayed tuesdayRule mondayRule fromNoon
-same c =
-    let three = c .before .before in
-    let one = three .before .before in
-    let a = one .before .args in
-    let x = a .weekday + one .pick .result in
-    rw (three .pick3 .ensures .0, three .before .pick2 .ensures .0, c .pick5 .ensures .0, c .before .pick4 .ensures .0, bits x (omega arith) (omega arith), one .pick .ensures .0)
-    (add-up (tuesdayRule (a .weekday) (a .time) (a .leap)) (mondayRule (a .weekday) (a .time) (a .after-leap)) (fromNoon (a .time)) (a .weekday))
+tests : ℕ → Bool → Bool → Bool → List Bool
+tests w tuesday monday noon =
+    let i = place w tuesday monday noon in
+    alike (entries i) (byRules tuesday monday noon (closed (w + 1)) (closed w)) ∷ ltb i 16 ∷ leb (getD delays i 0) 5 ∷ leb (getD causes i 0) 5 ∷ []
 
-returns : tie.Need-returns
-returns c =
-    let a = c .before .before .before .before .before .args in
-    (same c, rw (ap (λ (d : Delayed). d .delay) (same c)) (at-most-two (a .weekday) (a .time) (a .leap) (a .after-leap)))
+tests-all : every 1 7 (λ w. eitherWay (λ a. eitherWay (λ b. eitherWay (λ c. all (tests w a b c))))) ≡ true
+unfolding every eitherWay tests alike closed
+tests-all = refl
+
+passed : (w : ℕ) → 1 ≤ w → w ≤ 7 → (a b c : Bool) → Each (tests w a b c)
+passed w l u a b c = facts (tests w a b c) (whether _ (whether _ (whether _ (at 1 7 _ tests-all w l (omega arith)) a) b) c)
+
+-- What holds at the place i that is picked for a molad on weekday w at time t.
+record Picked (w t : ℕ) (isLeap afterLeap : Bool) (i : ℕ) : Type 0 where
+  told : entries i ≡ delayed w t isLeap afterLeap
+  inside : i < 16
+  small-delay : getD delays i 0 ≤ 5
+  small-cause : getD causes i 0 ≤ 5
+
+picked : (c : tie.After-pick3) → let a = c .before .before .before .args in Picked (a .weekday) (a .time) (a .leap) (a .after-leap) (c .pick3 .result)
+unfolding delayed tuesdayRule mondayRule fromNoon tests
+picked c =
+    let b = c .before .before .before in
+    let a = b .args in
+    let p = passed (a .weekday) (b .pre .0) (b .pre .1) (tuesdayRule (a .weekday) (a .time) (a .leap)) (mondayRule (a .weekday) (a .time) (a .after-leap)) (fromNoon (a .time)) in
+    rw (c .pick3 .ensures .0, c .before .pick2 .ensures .0, c .before .before .pick .ensures .0)
+    (record {
+      told = are-alike _ _ (p .0);
+      inside = ltb-true _ _ (p .1 .0);
+      small-delay = leb-true _ _ (p .1 .1 .0);
+      small-cause = leb-true _ _ (p .1 .1 .1 .0);
+    })
 
 pub delay-spec : {M : Type 1} → statement M
 delay-spec =
@@ -69,10 +69,11 @@ delay-spec =
     (search needs)
     (search needs)
     (search needs)
-    (search needs)
-    (search needs)
-    (search needs)
-    (search needs)
-    (search needs)
-    (search needs)
-    returns)
+    (λ c. picked c .inside)
+    (λ c. let p = picked c in record { fits = omega arith })
+    (λ c. picked c .inside)
+    (λ c. let p = picked c in record { fits = omega arith })
+    (λ c.
+    let a = c .before .before .before .args in
+    let e = picked c .told in
+    (e, rw (ap (λ (d : Delayed). d .delay) e) (at-most-two (a .weekday) (a .time) (a .leap) (a .after-leap)))))
