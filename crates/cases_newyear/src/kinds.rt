@@ -1,5 +1,6 @@
-// Source 001: the fourteen kinds of year and the ten that never come, and what the last two delays do.
+// Source 001: the fourteen kinds of year and the ten that never come; each cause of a delay, and what the last two do.
 ghost use Prim.Native.Nat.{_≤_};
+use crate::counts::ANY_CAUSE;
 use crate::counts::Asked;
 use crate::counts::count;
 use show::end;
@@ -8,7 +9,7 @@ use show::text;
 
 fn line(asked: Asked) {
     text(b"years");
-    number(asked.rule);
+    number(asked.cause);
     number(asked.kind);
     number(asked.kind_before);
     text(b" ->");
@@ -18,15 +19,15 @@ fn line(asked: Asked) {
 
 fn of_kind(kind: u64) {
     line(Asked {
-        rule: 0,
+        cause: ANY_CAUSE,
         kind,
         kind_before: 0,
     });
 }
 
-fn by_rule(rule: u64, kind: u64, kind_before: u64) {
+fn by_cause(cause: u64, kind: u64, kind_before: u64) {
     line(Asked {
-        rule,
+        cause,
         kind,
         kind_before,
     });
@@ -49,16 +50,19 @@ pub fn rows() {
     table_2(3000);
     table_2(5000);
     table_2(7000);
-    by_rule(1, 0, 0);
+    by_cause(0, 0, 0);
+    by_cause(1, 0, 0);
+    by_cause(2, 0, 0);
+    by_cause(3, 0, 0);
     // The Tuesday rule: the year is Thursday 354, after Saturday 355 or Thursday 385.
-    by_rule(3, 0, 0);
-    by_rule(3, 5354, 0);
-    by_rule(3, 0, 7355);
-    by_rule(3, 0, 5385);
+    by_cause(4, 0, 0);
+    by_cause(4, 5354, 0);
+    by_cause(4, 0, 7355);
+    by_cause(4, 0, 5385);
     // The Monday rule: the year is Tuesday 354, after Thursday 383.
-    by_rule(4, 0, 0);
-    by_rule(4, 3354, 0);
-    by_rule(4, 0, 5383);
+    by_cause(5, 0, 0);
+    by_cause(5, 3354, 0);
+    by_cause(5, 0, 5383);
     // New Year on Monday after a common year comes after Thursday 354.
-    by_rule(0, 0, 5354);
+    by_cause(ANY_CAUSE, 0, 5354);
 }

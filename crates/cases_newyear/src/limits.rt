@@ -1,4 +1,5 @@
-// The four delays at their limits, on the part and the part before it: no year shows them. Source 001 prints the ranges.
+// The four delays at their limits, on the part and the part before it, each with its cause: no year shows them. Source 001
+// prints the ranges.
 ghost use Prim.Native.Nat.{_≤_, _<_};
 use show::end;
 use show::number;
@@ -20,7 +21,9 @@ fn delay(weekday: u64, hour: u64, part: u64, leap: bool, after_leap: bool)
     flag(leap, b" leap");
     flag(after_leap, b" after leap");
     text(b" ->");
-    number(newyear::delay(weekday, 1080 * hour + part, leap, after_leap));
+    let late = newyear::delay(weekday, 1080 * hour + part, leap, after_leap);
+    number(late.delay);
+    number(late.cause);
     end();
 }
 

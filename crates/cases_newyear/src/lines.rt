@@ -14,6 +14,8 @@ pub fn new_year(year: u64) {
     number(answer.molad_day);
     number(answer.molad_hour);
     number(answer.molad_part);
+    number(answer.delay);
+    number(answer.cause);
     end();
 }
 
@@ -35,6 +37,8 @@ pub fn year(year: u64) {
     number(answer.weekday);
     number(answer.length);
     number(answer.months);
+    number(answer.delay);
+    number(answer.cause);
     end();
 }
 

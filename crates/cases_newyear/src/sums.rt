@@ -1,4 +1,5 @@
-// All 10,000 New Years, all 9,999 lengths, and the year of every New Year and of the day before it, each as one number.
+// All 10,000 New Years with their molads, delays and causes, all 9,999 lengths, and the year of every New Year and of the
+// day before it, each as one number.
 ghost use Prim.Native.Nat.{_<_};
 use show::end;
 use show::mixed;
@@ -6,7 +7,7 @@ use show::number;
 use show::text;
 
 // 0 New Year, 1 the length, 2 the molad's day, 3 its hour, 4 its part, 5 the months, 6 the year that New Year's day is
-// in, 7 that of the day before.
+// in, 7 that of the day before, 8 the delay and its cause, 9 the same as the year tells it.
 fn asked(what: u64, year: u64) -> u64 {
     let first = newyear::new_year(year);
     match what {
@@ -17,6 +18,8 @@ fn asked(what: u64, year: u64) -> u64 {
         4 => first.molad_part,
         5 => newyear::year(year).months,
         6 => newyear::year_of_day(first.day).year,
+        8 => mixed(first.delay, first.cause),
+        9 => mixed(newyear::year(year).delay, newyear::year(year).cause),
         _ => newyear::year_of_day(std::num::wrapping_sub_u64(first.day, 1)).year,
     }
 }
@@ -50,4 +53,6 @@ pub fn rows() {
     line(b"9,999 numbers of months:", 5, 9999);
     line(b"year of New Year's day:", 6, 9999);
     line(b"year of the day before:", 7, 10_000);
+    line(b"10,000 delays and causes:", 8, 10_000);
+    line(b"as the years tell them:", 9, 9999);
 }

@@ -1,4 +1,5 @@
-// Both routes: the ends of the range, one beyond them, the largest number, and all 10,000 years.
+// Both routes: the ends of the range, one beyond them, the largest number, and the first year of each cause; and all
+// 10,000 years.
 use show::end;
 use show::mixed;
 use show::number;
@@ -12,6 +13,8 @@ fn answer(words: &[u8], answer: newyear::NewYearAnswer) {
     number(answer.molad_day);
     number(answer.molad_hour);
     number(answer.molad_part);
+    number(answer.delay);
+    number(answer.cause);
 }
 
 fn both(year: u64) {
@@ -29,12 +32,15 @@ fn differ(a: newyear::NewYearAnswer, b: newyear::NewYearAnswer) -> bool {
         | (a.molad_day != b.molad_day)
         | (a.molad_hour != b.molad_hour)
         | (a.molad_part != b.molad_part)
+        | (a.delay != b.delay)
+        | (a.cause != b.cause)
 }
 
 // An answer's numbers, mixed into the sum.
 fn with_answer(sum: u64, a: newyear::NewYearAnswer) -> u64 {
     let day = mixed(mixed(mixed(sum, a.refusal), a.day), a.weekday);
-    mixed(mixed(mixed(day, a.molad_day), a.molad_hour), a.molad_part)
+    let molad = mixed(mixed(mixed(day, a.molad_day), a.molad_hour), a.molad_part);
+    mixed(mixed(molad, a.delay), a.cause)
 }
 
 struct Compared {
@@ -57,10 +63,69 @@ fn all_years() -> Compared {
     Compared { disagreements, sum }
 }
 
+fn cause_of(year: u64, by_rhodes: bool) -> u64 {
+    if by_rhodes {
+        rhodes::new_year_rhodes(year).cause
+    } else {
+        newyear::new_year(year).cause
+    }
+}
+
+// How many of the years 1 to 10,000 have the cause, by Rhodes' route or by counting.
+fn years_with(cause: u64, by_rhodes: bool) -> u64 {
+    let mut years: u64 = 0;
+    let mut year = 1;
+    while year <= 10_000 {
+        if cause_of(year, by_rhodes) == cause {
+            years += 1;
+        }
+        year += 1;
+    }
+    years
+}
+
+// The first of them, by Rhodes' route; 0 if there is none.
+fn first_with(cause: u64) -> u64 {
+    let mut year = 1;
+    while year <= 10_000 {
+        if cause_of(year, true) == cause {
+            return year;
+        }
+        year += 1;
+    }
+    0
+}
+
+fn years_of_cause(cause: u64) {
+    text(b"cause");
+    number(cause);
+    text(b" -> first in");
+    number(first_with(cause));
+    text(b", in all");
+    number(years_with(cause, true));
+    text(b" |");
+    number(years_with(cause, false));
+    end();
+}
+
+fn causes() {
+    years_of_cause(0);
+    years_of_cause(1);
+    years_of_cause(2);
+    years_of_cause(3);
+    years_of_cause(4);
+    years_of_cause(5);
+    years_of_cause(6);
+}
+
 pub fn rows() {
     both(0);
     both(1);
+    both(4);
     both(2);
+    both(3);
+    both(7);
+    both(75);
     both(5762);
     both(9999);
     both(10_000);
@@ -72,4 +137,5 @@ pub fn rows() {
     text(b", Rhodes' answers");
     number(all.sum);
     end();
+    causes();
 }

@@ -46,10 +46,17 @@ fn new_year(year: u64)
     requires { ⌜ (1 ≤ year) × (year ≤ 10000) ⌝ }
 {
     steps(year);
+    let answer = rhodes::new_year_rhodes(year);
     text(b"new year");
     number(year);
     text(b" ->");
-    day(rhodes::new_year_rhodes(year).day);
+    day(answer.day);
+    text(b"delay");
+    number(year);
+    text(b" ->");
+    number(answer.delay);
+    number(answer.cause);
+    end();
 }
 
 // 15 Nisan of the year before comes 163 days before New Year.

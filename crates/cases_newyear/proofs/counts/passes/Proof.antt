@@ -12,4 +12,6 @@ passes-spec =
     (search needs)
     (search needs)
     (search needs)
-    (λ c. let k = c .before .before .before .before in rw (c .before .kind2 .ensures, k .kind .ensures, k .before .before .ruled .ensures)))
+    (λ c.
+    let k = c .before .before .before .before in
+    rw (c .before .kind2 .ensures, k .kind .ensures, k .before .before .before .before .new-year .ensures)))
