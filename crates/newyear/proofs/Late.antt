@@ -1,4 +1,5 @@
--- What the delays do: at most two days; and each cause exactly where its rule applies, with its own days.
+-- What the delays do: each rule begins and ends at its very limits; a delay has at most two days; and each cause comes
+-- exactly where its rule applies, with its own days.
 use mathlib.Core.Path.{_≡_, refl, sym, _∙_}
 use mathlib.Core.Bool.{Bool, true, false, _&&_, not, cond, Bool·beq}
 use mathlib.Core.List.{List, [], _∷_}
@@ -11,9 +12,22 @@ use lib.ListN.{getD}
 use borrow.Author.Tests.{eq-eqb, eqb-true, lt-ltb, le-ltb, ltb-true, ltb-false, le-leb, lt-leb, leb-true, not-true}
 use Rattle.laws.specs.Runs.{every, eitherWay, elem}
 use Rattle.laws.proofs.Tests.{and-left, and-right, at, whether, all, Each, facts, beq-true}
-use Rattle.newyear.specs.Delays.{tuesdayRule, mondayRule, fromNoon, closed, _daysBy_, delayed}
+use Rattle.molad.specs.Units.{time}
+use Rattle.newyear.specs.Delays.{fromNoon, closed, tuesdayRule, mondayRule, noCause, noonCause, weekdayCause, noonThenWeekday, tuesdayCause, mondayCause, _daysBy_, delayed}
 use Rattle.newyear.specs.Promises.{Explained}
 use Rattle.newyear.specs.declared.delays.Delayed.{Delayed}
+
+-- On the part of a limit and the part before it, in the years that the rule is for: on a Monday, a Tuesday and a Sunday.
+pub at-the-limits :
+    (b : Bool) →
+    (((delayed 2 (time 15 588) b true ≡ 0 daysBy noCause) × (delayed 2 (time 15 589) b true ≡ 1 daysBy mondayCause))
+    × ((delayed 2 (time 17 1079) b true ≡ 1 daysBy mondayCause) × (delayed 2 (time 18 0) b true ≡ 1 daysBy noonCause)))
+    × ((((delayed 3 (time 9 203) false b ≡ 0 daysBy noCause) × (delayed 3 (time 9 204) false b ≡ 2 daysBy tuesdayCause))
+    × ((delayed 3 (time 17 1079) false b ≡ 2 daysBy tuesdayCause) × (delayed 3 (time 18 0) false b ≡ 2 daysBy noonThenWeekday)))
+    × ((delayed 1 (time 17 1079) b b ≡ 1 daysBy weekdayCause) × (delayed 1 (time 18 0) b b ≡ 1 daysBy noonCause)))
+unfolding delayed tuesdayRule mondayRule fromNoon closed
+at-the-limits true = (((refl, refl), (refl, refl)), (((refl, refl), (refl, refl)), (refl, refl)))
+at-the-limits false = (((refl, refl), (refl, refl)), (((refl, refl), (refl, refl)), (refl, refl)))
 
 -- Two delays with the same days and the same cause.
 unfoldable pub alike : Delayed → Delayed → Bool

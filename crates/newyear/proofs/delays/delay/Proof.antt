@@ -47,19 +47,26 @@ record Picked (w t : ℕ) (isLeap afterLeap : Bool) (i : ℕ) : Type 0 where
   small-delay : getD delays i 0 ≤ 5
   small-cause : getD causes i 0 ≤ 5
 
-picked : (c : tie.After-pick3) → let a = c .before .before .before .args in Picked (a .weekday) (a .time) (a .leap) (a .after-leap) (c .pick3 .result)
-unfolding delayed tuesdayRule mondayRule fromNoon tests
-picked c =
-    let b = c .before .before .before in
-    let a = b .args in
-    let p = passed (a .weekday) (b .pre .0) (b .pre .1) (tuesdayRule (a .weekday) (a .time) (a .leap)) (mondayRule (a .weekday) (a .time) (a .after-leap)) (fromNoon (a .time)) in
-    rw (c .pick3 .ensures .0, c .before .pick2 .ensures .0, c .before .before .pick .ensures .0)
-    (record {
+at-place :
+    (w t : ℕ) (isLeap afterLeap : Bool) → 1 ≤ w → w ≤ 7 →
+    Picked w t isLeap afterLeap (place w (tuesdayRule w t isLeap) (mondayRule w t afterLeap) (fromNoon t))
+unfolding delayed tests
+at-place w t isLeap afterLeap l u =
+    let p = passed w l u (tuesdayRule w t isLeap) (mondayRule w t afterLeap) (fromNoon t) in
+    record {
       told = are-alike _ _ (p .0);
       inside = ltb-true _ _ (p .1 .0);
       small-delay = leb-true _ _ (p .1 .1 .0);
       small-cause = leb-true _ _ (p .1 .1 .1 .0);
-    })
+    }
+
+picked : (c : tie.After-pick3) → let a = c .before .before .before .args in Picked (a .weekday) (a .time) (a .leap) (a .after-leap) (c .pick3 .result)
+unfolding tuesdayRule mondayRule fromNoon
+picked c =
+    let b = c .before .before .before in
+    let a = b .args in
+    rw (c .pick3 .ensures .0, c .before .pick2 .ensures .0, c .before .before .pick .ensures .0)
+    (at-place (a .weekday) (a .time) (a .leap) (a .after-leap) (b .pre .0) (b .pre .1))
 
 pub delay-spec : {M : Type 1} → statement M
 delay-spec =
