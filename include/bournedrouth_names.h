@@ -35,6 +35,14 @@ static inline const char *bd_month_name(uint64_t month, uint64_t year_length)
     return bd_name_at(names, sizeof names / sizeof *names, month);
 }
 
+/* Why New Year was delayed: "none" (0) to "the Monday rule" (5). */
+static inline const char *bd_cause_name(uint64_t cause)
+{
+    static const char *const names[] = {"none",    "noon", "weekday", "noon then weekday", "the Tuesday rule",
+                                        "the Monday rule"};
+    return bd_name_at(names, sizeof names / sizeof *names, cause);
+}
+
 /* What a refusal says, to be put after a colon. */
 static inline const char *bd_refusal_name(uint64_t refusal)
 {

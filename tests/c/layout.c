@@ -66,16 +66,17 @@ static void large_structs(void)
     AT(bd_notice_answer, minute, 4), AT(bd_notice_answer, part, 5);
 
     placed(raw_new_year(fresh(), 5775));
-    WORDS(bd_new_year_answer, 0, 2456926, 5, 2456925, 14, 339);
+    WORDS(bd_new_year_answer, 0, 2456926, 5, 2456925, 14, 339, 1, 2);
     placed(raw_new_year_rhodes(fresh(), 5775));
-    WORDS(bd_new_year_answer, 0, 2456926, 5, 2456925, 14, 339);
+    WORDS(bd_new_year_answer, 0, 2456926, 5, 2456925, 14, 339, 1, 2);
     AT(bd_new_year_answer, day, 1), AT(bd_new_year_answer, weekday, 2), AT(bd_new_year_answer, molad_day, 3);
     AT(bd_new_year_answer, molad_hour, 4), AT(bd_new_year_answer, molad_part, 5);
+    AT(bd_new_year_answer, delay, 6), AT(bd_new_year_answer, cause, 7);
 
-    placed(raw_year(fresh(), 5763));
-    WORDS(bd_year_answer, 0, 2452525, 7, 385, 13);
+    placed(raw_year(fresh(), 5745));
+    WORDS(bd_year_answer, 0, 2445971, 5, 354, 12, 2, 4);
     AT(bd_year_answer, new_year, 1), AT(bd_year_answer, weekday, 2), AT(bd_year_answer, length, 3);
-    AT(bd_year_answer, months, 4);
+    AT(bd_year_answer, months, 4), AT(bd_year_answer, delay, 5), AT(bd_year_answer, cause, 6);
 
     placed(raw_day_to_hebrew(fresh(), 2452362));
     WORDS(bd_hebrew_date, 0, 5762, 8, 15, 2452171, 354, 192);

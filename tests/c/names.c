@@ -27,6 +27,23 @@ static void weekdays(void)
     for (size_t i = 0; i < COUNT(BEYOND); ++i) same_text("no name", bd_weekday_name(BEYOND[i]), "?");
 }
 
+static void causes(void)
+{
+    static const char *const want[] = {
+        [BD_CAUSE_NONE] = "none",
+        [BD_CAUSE_NOON] = "noon",
+        [BD_CAUSE_WEEKDAY] = "weekday",
+        [BD_CAUSE_NOON_THEN_WEEKDAY] = "noon then weekday",
+        [BD_CAUSE_TUESDAY] = "the Tuesday rule",
+        [BD_CAUSE_MONDAY] = "the Monday rule",
+    };
+    asking("the causes");
+    same("count", COUNT(want), 6);
+    for (uint64_t cause = 0; cause < COUNT(want); ++cause) same_text("name", bd_cause_name(cause), want[cause]);
+    same_text("no name", bd_cause_name(COUNT(want)), "?");
+    for (size_t i = 0; i < COUNT(BEYOND); ++i) same_text("no name", bd_cause_name(BEYOND[i]), "?");
+}
+
 static void refusals(void)
 {
     static const char *const want[] = {
@@ -72,6 +89,7 @@ void names(void)
     for (size_t i = 0; i < COUNT(common); ++i) months(common[i], "Adar");
     for (size_t i = 0; i < COUNT(leap); ++i) months(leap[i], "Adar II");
     weekdays();
+    causes();
     refusals();
     places();
     end();

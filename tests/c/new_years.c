@@ -27,38 +27,41 @@ static const molad_row MOLADS[] = {
 };
 
 typedef struct {
-    uint64_t year, day, weekday, molad_day, molad_hour, molad_part, length, months;
+    uint64_t year, day, weekday, molad_day, molad_hour, molad_part, length, months, delay, cause;
 } year_row;
 
-/* Document 01's days to check, and New Years of the sources under each of the delays. */
+/* Document 01's days to check, New Years of the sources under each of the delays, and the first year of each cause. */
 static const year_row YEARS[] = {
-    {1, 347998, 2, 347998, 5, 204, 355, 12},
-    {2, 348353, 7, 348352, 14, 0, 355, 12},
-    {3, 348708, 5, 348706, 22, 876, 383, 13},
-    {19, 354555, 7, 354554, 0, 210, 383, 13},
-    {247, 437830, 3, 437830, 6, 870, 384, 13},
-    {3041, 1458348, 5, 1458348, 13, 364, 355, 12},
-    {3174, 1506928, 5, 1506926, 9, 209, 354, 12},
-    {3758, 1720227, 7, 1720225, 20, 808, 353, 12},
-    {4257, 1902489, 3, 1902488, 16, 644, 354, 12},
-    {4602, 2028496, 3, 2028495, 17, 735, 354, 12},
-    {5025, 2183000, 3, 2182999, 19, 351, 354, 12},
-    {5253, 2266276, 7, 2266276, 1, 1011, 355, 12},
-    {5393, 2317395, 5, 2317393, 12, 1014, 354, 12},
-    {5741, 2444494, 5, 2444493, 5, 206, 383, 13},
-    {5745, 2445971, 5, 2445969, 17, 976, 354, 12},
-    {5762, 2452171, 3, 2452171, 4, 106, 354, 12},
-    {5763, 2452525, 7, 2452525, 12, 982, 385, 13},
-    {5766, 2453648, 3, 2453647, 16, 876, 354, 12},
-    {5769, 2454740, 3, 2454740, 7, 1057, 354, 12},
-    {5775, 2456926, 5, 2456925, 14, 339, 354, 12},
-    {5816, 2471899, 5, 2471897, 14, 630, 354, 12},
-    {9998, 3999369, 5, 3999367, 14, 155, 354, 12},
-    {9999, 3999723, 2, 3999721, 22, 1031, 353, 12},
+    {1, 347998, 2, 347998, 5, 204, 355, 12, 0, 0},
+    {2, 348353, 7, 348352, 14, 0, 355, 12, 1, 2},
+    {3, 348708, 5, 348706, 22, 876, 383, 13, 2, 3},
+    {4, 349091, 3, 349090, 20, 385, 354, 12, 1, 1},
+    {7, 350185, 5, 350183, 11, 566, 354, 12, 2, 4},
+    {19, 354555, 7, 354554, 0, 210, 383, 13, 1, 2},
+    {75, 375019, 3, 375018, 17, 39, 354, 12, 1, 5},
+    {247, 437830, 3, 437830, 6, 870, 384, 13, 0, 0},
+    {3041, 1458348, 5, 1458348, 13, 364, 355, 12, 0, 0},
+    {3174, 1506928, 5, 1506926, 9, 209, 354, 12, 2, 4},
+    {3758, 1720227, 7, 1720225, 20, 808, 353, 12, 2, 3},
+    {4257, 1902489, 3, 1902488, 16, 644, 354, 12, 1, 5},
+    {4602, 2028496, 3, 2028495, 17, 735, 354, 12, 1, 5},
+    {5025, 2183000, 3, 2182999, 19, 351, 354, 12, 1, 1},
+    {5253, 2266276, 7, 2266276, 1, 1011, 355, 12, 0, 0},
+    {5393, 2317395, 5, 2317393, 12, 1014, 354, 12, 2, 4},
+    {5741, 2444494, 5, 2444493, 5, 206, 383, 13, 1, 2},
+    {5745, 2445971, 5, 2445969, 17, 976, 354, 12, 2, 4},
+    {5762, 2452171, 3, 2452171, 4, 106, 354, 12, 0, 0},
+    {5763, 2452525, 7, 2452525, 12, 982, 385, 13, 0, 0},
+    {5766, 2453648, 3, 2453647, 16, 876, 354, 12, 1, 5},
+    {5769, 2454740, 3, 2454740, 7, 1057, 354, 12, 0, 0},
+    {5775, 2456926, 5, 2456925, 14, 339, 354, 12, 1, 2},
+    {5816, 2471899, 5, 2471897, 14, 630, 354, 12, 2, 4},
+    {9998, 3999369, 5, 3999367, 14, 155, 354, 12, 2, 4},
+    {9999, 3999723, 2, 3999721, 22, 1031, 353, 12, 2, 3},
 };
 
-static const year_row NEXT = {10000, 4000076, 5, 4000076, 7, 827, 0, 0};
-static const year_row NONE = {0, 0, 0, 0, 0, 0, 0, 0};
+static const year_row NEXT = {10000, 4000076, 5, 4000076, 7, 827, 0, 0, 0, BD_CAUSE_NONE};
+static const year_row NONE = {0, 0, 0, 0, 0, 0, 0, 0, 0, 0};
 static const molad_row NO_MOLAD = {0, 0, 0, 0, 0, 0, 0, 0, 0};
 
 static const uint64_t BAD_YEARS[] = {0, 10001, UINT64_C(1) << 32, (UINT64_C(1) << 32) + 5762, UINT64_MAX};
@@ -85,6 +88,7 @@ static void new_year(const char *call, bd_new_year_answer got, uint64_t year, ui
     same("day", got.day, want->day), same("weekday", got.weekday, want->weekday);
     same("molad_day", got.molad_day, want->molad_day), same("molad_hour", got.molad_hour, want->molad_hour);
     same("molad_part", got.molad_part, want->molad_part);
+    same("delay", got.delay, want->delay), same("cause", got.cause, want->cause);
 }
 
 static void both_routes(uint64_t year, uint64_t refusal, const year_row *want)
@@ -100,6 +104,7 @@ static void whole_year(uint64_t year, uint64_t refusal, const year_row *want)
     same("refusal", got.refusal, refusal);
     same("new_year", got.new_year, want->day), same("weekday", got.weekday, want->weekday);
     same("length", got.length, want->length), same("months", got.months, want->months);
+    same("delay", got.delay, want->delay), same("cause", got.cause, want->cause);
 }
 
 static void year_of_day(uint64_t day, uint64_t refusal, uint64_t want)

@@ -9,6 +9,8 @@ struct NewYear {
     molad_day: u64,
     molad_hour: u64,
     molad_part: u64,
+    delay: u64,
+    cause: u64,
 }
 
 #[repr(C)]
@@ -60,29 +62,39 @@ fn weekday(day: u64) -> u64 {
     (day + 1) % 7 + 1
 }
 
-/// The day of New Year for a molad of Tishri on a day at a time.
-fn delayed(year: u64, day: u64, time: u64) -> u64 {
+/// The days from a molad of Tishri on a day at a time to New Year, and the cause.
+fn delayed(year: u64, day: u64, time: u64) -> (u64, u64) {
     let before_noon = time < 18 * HOUR;
     match weekday(day) {
-        3 if !leap(year) && time >= 9 * HOUR + 204 && before_noon => return day + 2,
-        2 if year > 1 && leap(year - 1) && time >= 15 * HOUR + 589 && before_noon => return day + 1,
+        3 if !leap(year) && time >= 9 * HOUR + 204 && before_noon => return (2, 4),
+        2 if year > 1 && leap(year - 1) && time >= 15 * HOUR + 589 && before_noon => return (1, 5),
         _ => {}
     }
-    let day = if before_noon { day } else { day + 1 };
-    if matches!(weekday(day), 1 | 4 | 6) { day + 1 } else { day }
+    let noon = if before_noon { 0 } else { 1 };
+    let closed = if matches!(weekday(day + noon), 1 | 4 | 6) { 1 } else { 0 };
+    (noon + closed, noon + 2 * closed)
 }
 
-/// The moladot of Tishri, in parts from the first day, and the New Years, of years 1 to 10,000; entry 0 is no year.
-fn count_years() -> (Vec<u64>, Vec<u64>) {
-    let (mut molads, mut new_years, mut parts) = (vec![0], vec![0], 5 * HOUR + 204);
+/// A year's New Year, with the molad of Tishri in parts from the first day.
+struct Begins {
+    molad: u64,
+    delay: u64,
+    cause: u64,
+    day: u64,
+}
+
+/// Years 1 to 10,000, the first at entry 0.
+fn count_years() -> Vec<Begins> {
+    let (mut years, mut molad) = (Vec::new(), 5 * HOUR + 204);
     for year in 1..=10_000 {
-        molads.push(parts);
-        new_years.push(delayed(year, FIRST_DAY + parts / DAY, parts % DAY));
+        let day = FIRST_DAY + molad / DAY;
+        let (delay, cause) = delayed(year, day, molad % DAY);
+        years.push(Begins { molad, delay, cause, day: day + delay });
         for _ in 0..if leap(year) { 13 } else { 12 } {
-            parts += MONTH;
+            molad += MONTH;
         }
     }
-    (molads, new_years)
+    years
 }
 
 /// The months of a year that has so many days: code and length.
@@ -103,21 +115,22 @@ fn months(year: u64, length: u64) -> Vec<(u64, u64)> {
 }
 
 /// Every New Year by both routes; returns how many were asked.
-fn new_years(molads: &[u64], new_years: &[u64]) -> u64 {
-    for year in 1..=10_000u64 {
-        let (parts, day) = (molads[year as usize], new_years[year as usize]);
-        let want = (0, day, weekday(day), FIRST_DAY + parts / DAY, parts % DAY / HOUR, parts % HOUR);
+fn new_years(years: &[Begins]) -> u64 {
+    for (year, begins) in (1u64..).zip(years) {
+        let Begins { molad, delay, cause, day } = *begins;
+        let molad = (FIRST_DAY + molad / DAY, molad % DAY / HOUR, molad % HOUR);
         for got in unsafe { [bd_new_year(year), bd_new_year_rhodes(year)] } {
-            let got = (got.refusal, got.day, got.weekday, got.molad_day, got.molad_hour, got.molad_part);
-            assert_eq!(got, want, "New Year {year}");
+            assert_eq!((got.refusal, got.day, got.weekday), (0, day, weekday(day)), "New Year {year}");
+            assert_eq!((got.molad_day, got.molad_hour, got.molad_part), molad, "molad of New Year {year}");
+            assert_eq!((got.delay, got.cause), (delay, cause), "delay of New Year {year}");
         }
     }
     for year in [0, 10_001, u64::MAX] {
         for got in unsafe { [bd_new_year(year), bd_new_year_rhodes(year)] } {
-            assert_eq!((got.refusal, got.day, got.molad_part), (1, 0, 0), "New Year {year}");
+            assert_eq!((got.refusal, got.day, got.molad_part, got.delay, got.cause), (1, 0, 0, 0, 0), "New Year {year}");
         }
     }
-    20_000
+    2 * years.len() as u64
 }
 
 /// Every day of a year there and back, and the days that rest; returns how many days it has.
@@ -169,11 +182,11 @@ fn stretches(year: u64, new_year: u64, rest: &[u64]) {
 }
 
 fn main() {
-    let (molads, begins) = count_years();
-    println!("Rust calls: every New Year: {} answers", new_years(&molads, &begins));
+    let years = count_years();
+    println!("Rust calls: every New Year: {} answers", new_years(&years));
     let mut days = 0;
-    for year in 1..=9_999u64 {
-        let (new_year, next) = (begins[year as usize], begins[year as usize + 1]);
+    for (year, pair) in (1u64..).zip(years.windows(2)) {
+        let (new_year, next) = (pair[0].day, pair[1].day);
         let mut rest = Vec::new();
         days += dates(year, new_year, next - new_year, &mut rest);
         stretches(year, new_year, &rest);
