@@ -94,14 +94,14 @@ enum bd_month_code {
 };
 
 /*
- * Why New Year comes after the day of Tishri's molad. The day of the molad begins at 18:00 the evening before, and noon
- * is 18 hours later; where noon and the weekday both delay it, the weekday is that of the day after noon's.
+ * Why New Year comes after the day of Tishri's molad. That day begins at 18:00 the evening before, and noon is 18 hours
+ * later.
  */
 enum bd_cause {
     BD_CAUSE_NONE = 0,              /* it does not: New Year is the day of the molad */
     BD_CAUSE_NOON = 1,              /* the molad is at noon or later: 1 day */
-    BD_CAUSE_WEEKDAY = 2,           /* New Year is no Sunday, Wednesday or Friday: 1 day */
-    BD_CAUSE_NOON_THEN_WEEKDAY = 3, /* both: 2 days */
+    BD_CAUSE_WEEKDAY = 2,           /* the molad, before noon, is on a Sunday, Wednesday or Friday: 1 day */
+    BD_CAUSE_NOON_THEN_WEEKDAY = 3, /* the molad is at noon or later on the day before one of these: 2 days */
     BD_CAUSE_TUESDAY = 4,           /* common year, molad on a Tuesday from 9 h 204 p to noon: 2 days */
     BD_CAUSE_MONDAY = 5             /* year after a leap year, molad on a Monday from 15 h 589 p to noon: 1 day */
 };
@@ -190,13 +190,13 @@ bd_molad_answer bd_molad(uint64_t year, uint64_t month);
 /* What the molad notice shows for a month: the molad on the clock, beside its own Hebrew day. Refusals: 1, 2. */
 bd_notice_answer bd_notice(uint64_t year, uint64_t month);
 
-/* The day on which a year begins, 1..10,000, the molad of its Tishri, and why it comes so long after it. Refusal: 1. */
+/* The day on which a year begins, 1..10,000; the molad of its Tishri; how long after that, and why. Refusal: 1. */
 bd_new_year_answer bd_new_year(uint64_t year);
 
 /* The same by Rhodes' closed formula, which counts no months. Refusal: 1. */
 bd_new_year_answer bd_new_year_rhodes(uint64_t year);
 
-/* The first day, the length and the number of months of a year, and why it begins on that day. Refusal: 1. */
+/* The first day, the length and the number of months of a year; New Year's delay and its cause. Refusal: 1. */
 bd_year_answer bd_year(uint64_t year);
 
 /* The Hebrew year that holds a day. Refusal: 4. */

@@ -1,5 +1,5 @@
-// The four delays at their limits, on the part and the part before it, each with its cause: no year shows them. Source 001
-// prints the ranges.
+// The four delays at their limits, on the part and the part before it, each with its cause: no year shows them. Source
+// 001 prints the ranges.
 ghost use Prim.Native.Nat.{_≤_, _<_};
 use show::end;
 use show::number;

@@ -1,5 +1,5 @@
-// All 10,000 New Years with their molads, delays and causes, all 9,999 lengths, and the year of every New Year and of the
-// day before it, each as one number.
+// All 10,000 New Years with their molads, delays and causes, all 9,999 lengths, and the year of every New Year and of
+// the day before it, each as one number.
 ghost use Prim.Native.Nat.{_<_};
 use show::end;
 use show::mixed;

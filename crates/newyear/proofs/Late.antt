@@ -1,7 +1,7 @@
 -- What the delays do: each rule begins and ends at its very limits; a delay has at most two days; and each cause comes
 -- exactly where its rule applies, with its own days.
 use mathlib.Core.Path.{_≡_, refl, sym, _∙_}
-use mathlib.Core.Bool.{Bool, true, false, _&&_, not, cond, Bool·beq}
+use mathlib.Core.Bool.{Bool, true, false, _&&_, not, Bool·beq}
 use mathlib.Core.List.{List, [], _∷_}
 use mathlib.Core.Logic.{_↔_, by-cases}
 use Prim.Native.Nat.{ℕ, _+_, _≤_, _<_}
@@ -13,21 +13,27 @@ use borrow.Author.Tests.{eq-eqb, eqb-true, lt-ltb, le-ltb, ltb-true, ltb-false, 
 use Rattle.laws.specs.Runs.{every, eitherWay, elem}
 use Rattle.laws.proofs.Tests.{and-left, and-right, at, whether, all, Each, facts, beq-true}
 use Rattle.molad.specs.Units.{time}
-use Rattle.newyear.specs.Delays.{fromNoon, closed, tuesdayRule, mondayRule, noCause, noonCause, weekdayCause, noonThenWeekday, tuesdayCause, mondayCause, _daysBy_, delayed}
+use Rattle.newyear.specs.Delays.{fromNoon, closed, tuesdayRule, mondayRule, byRules, delayed}
 use Rattle.newyear.specs.Promises.{Explained}
 use Rattle.newyear.specs.declared.delays.Delayed.{Delayed}
 
--- On the part of a limit and the part before it, in the years that the rule is for: on a Monday, a Tuesday and a Sunday.
+-- So many days, and this cause.
+abbrev Gives : Delayed → ℕ → ℕ → Type 0
+Gives late days cause = (late .delay ≡ days) × (late .cause ≡ cause)
+
+-- On the part of a limit and on the part before it: on a Monday in a year after a leap year, on a Tuesday in a common
+-- year, and on a Monday and a Sunday where neither rule applies.
 pub at-the-limits :
     (b : Bool) →
-    (((delayed 2 (time 15 588) b true ≡ 0 daysBy noCause) × (delayed 2 (time 15 589) b true ≡ 1 daysBy mondayCause))
-    × ((delayed 2 (time 17 1079) b true ≡ 1 daysBy mondayCause) × (delayed 2 (time 18 0) b true ≡ 1 daysBy noonCause)))
-    × ((((delayed 3 (time 9 203) false b ≡ 0 daysBy noCause) × (delayed 3 (time 9 204) false b ≡ 2 daysBy tuesdayCause))
-    × ((delayed 3 (time 17 1079) false b ≡ 2 daysBy tuesdayCause) × (delayed 3 (time 18 0) false b ≡ 2 daysBy noonThenWeekday)))
-    × ((delayed 1 (time 17 1079) b b ≡ 1 daysBy weekdayCause) × (delayed 1 (time 18 0) b b ≡ 1 daysBy noonCause)))
+    ((Gives (delayed 2 (time 15 588) b true) 0 0 × Gives (delayed 2 (time 15 589) b true) 1 5)
+    × (Gives (delayed 2 (time 17 1079) b true) 1 5 × Gives (delayed 2 (time 18 0) b true) 1 1))
+    × (((Gives (delayed 3 (time 9 203) false b) 0 0 × Gives (delayed 3 (time 9 204) false b) 2 4)
+    × (Gives (delayed 3 (time 17 1079) false b) 2 4 × Gives (delayed 3 (time 18 0) false b) 2 3))
+    × ((Gives (delayed 2 (time 17 1079) b false) 0 0 × Gives (delayed 2 (time 18 0) b false) 1 1)
+    × (Gives (delayed 1 (time 17 1079) b false) 1 2 × Gives (delayed 1 (time 18 0) b false) 1 1)))
 unfolding delayed tuesdayRule mondayRule fromNoon closed
-at-the-limits true = (((refl, refl), (refl, refl)), (((refl, refl), (refl, refl)), (refl, refl)))
-at-the-limits false = (((refl, refl), (refl, refl)), (((refl, refl), (refl, refl)), (refl, refl)))
+at-the-limits true = ((((refl, refl), (refl, refl)), ((refl, refl), (refl, refl))), ((((refl, refl), (refl, refl)), ((refl, refl), (refl, refl))), (((refl, refl), (refl, refl)), ((refl, refl), (refl, refl)))))
+at-the-limits false = ((((refl, refl), (refl, refl)), ((refl, refl), (refl, refl))), ((((refl, refl), (refl, refl)), ((refl, refl), (refl, refl))), (((refl, refl), (refl, refl)), ((refl, refl), (refl, refl)))))
 
 -- Two delays with the same days and the same cause.
 unfoldable pub alike : Delayed → Delayed → Bool
@@ -39,14 +45,6 @@ are-alike a b e =
     let d = eqb-true (a .delay) (b .delay) (and-left _ _ e) in
     let c = eqb-true (a .cause) (b .cause) (and-right (eqb (a .delay) (b .delay)) _ e) in λ i. record { delay = d i; cause = c i }
 
--- The delay by what the rules say: whether the Tuesday and the Monday rule apply, whether it is noon or later, and whether
--- the next day and the day itself are left out.
-abbrev pub byRules : Bool → Bool → Bool → Bool → Bool → Delayed
-byRules tuesday monday noon next this =
-    cond tuesday (2 daysBy 4)
-    (cond monday (1 daysBy 5)
-    (cond noon (cond next (2 daysBy 3) (1 daysBy 1)) (cond this (1 daysBy 2) (0 daysBy 0))))
-
 two-all : eitherWay (λ a. eitherWay (λ b. eitherWay (λ c. eitherWay (λ d. eitherWay (λ e. leb (byRules a b c d e .delay) 2))))) ≡ true
 unfolding eitherWay
 two-all = refl
@@ -57,32 +55,31 @@ at-most-two w t isLeap afterLeap =
     leb-true _ _
     (whether _ (whether _ (whether _ (whether _ (whether _ two-all (tuesdayRule w t isLeap)) (mondayRule w t afterLeap)) (fromNoon t)) (closed (w + 1))) (closed w))
 
--- The delay by what the tests of the time say: whether it is at or past the Tuesday and the Monday limit, and whether it is
--- before noon.
+-- The delay by what the tests of the time say: at the Tuesday limit or later, at the Monday limit or later, before noon.
 abbrev pub byTimes : ℕ → Bool → Bool → Bool → Bool → Bool → Delayed
-byTimes w common afterLeap nine fifteen morning =
-    byRules (common && eqb w 3 && nine && morning) (afterLeap && eqb w 2 && fifteen && morning) (not morning) (closed (w + 1)) (closed w)
+byTimes w common afterLeap nine fifteen beforeNoon =
+    byRules (common && eqb w 3 && nine && beforeNoon) (afterLeap && eqb w 2 && fifteen && beforeNoon) (not beforeNoon) (closed (w + 1)) (closed w)
 
-noon-or-morning : (t : ℕ) → leb 19440 t ≡ not (ltb t 19440)
-noon-or-morning t =
+noon-or-before : (t : ℕ) → leb 19440 t ≡ not (ltb t 19440)
+noon-or-before t =
     by-cases (decLt t 19440)
     (λ p. rw (lt-ltb t 19440 p, lt-leb 19440 t p))
     (λ p. rw (le-ltb t 19440 (omega arith), le-leb 19440 t (omega arith)))
 
 pub by-times : (w t : ℕ) (isLeap afterLeap : Bool) → delayed w t isLeap afterLeap ≡ byTimes w (not isLeap) afterLeap (leb 9924 t) (leb 16789 t) (ltb t 19440)
 unfolding delayed tuesdayRule mondayRule fromNoon
-by-times w t isLeap afterLeap = rw (noon-or-morning t)
+by-times w t isLeap afterLeap = rw (noon-or-before t)
 
 -- What is to be shown, as tests: each cause, that there is no other, and the days.
 tests : ℕ → Bool → Bool → Bool → Bool → Bool → List Bool
-tests w common afterLeap nine fifteen morning =
-    let late = byTimes w common afterLeap nine fifteen morning in
+tests w common afterLeap nine fifteen beforeNoon =
+    let late = byTimes w common afterLeap nine fifteen beforeNoon in
     let c = late .cause in
-    Bool·beq (eqb c 1) (not morning && elem w (1 ∷ 2 ∷ 4 ∷ 6 ∷ []))
-    ∷ Bool·beq (eqb c 2) (morning && elem w (1 ∷ 4 ∷ 6 ∷ []))
-    ∷ Bool·beq (eqb c 3) (not morning && elem w (3 ∷ 5 ∷ 7 ∷ []))
-    ∷ Bool·beq (eqb c 4) ((common && eqb w 3) && (nine && morning))
-    ∷ Bool·beq (eqb c 5) ((afterLeap && eqb w 2) && (fifteen && morning))
+    Bool·beq (eqb c 1) (not beforeNoon && elem w (1 ∷ 2 ∷ 4 ∷ 6 ∷ []))
+    ∷ Bool·beq (eqb c 2) (beforeNoon && elem w (1 ∷ 4 ∷ 6 ∷ []))
+    ∷ Bool·beq (eqb c 3) (not beforeNoon && elem w (3 ∷ 5 ∷ 7 ∷ []))
+    ∷ Bool·beq (eqb c 4) ((common && eqb w 3) && (nine && beforeNoon))
+    ∷ Bool·beq (eqb c 5) ((afterLeap && eqb w 2) && (fifteen && beforeNoon))
     ∷ leb c 5 ∷ eqb (late .delay) (getD (0 ∷ 1 ∷ 1 ∷ 2 ∷ 2 ∷ 1 ∷ []) c 0) ∷ []
 
 tests-all : every 1 7 (λ w. eitherWay (λ a. eitherWay (λ b. eitherWay (λ c. eitherWay (λ d. eitherWay (λ e. all (tests w a b c d e))))))) ≡ true
@@ -131,16 +128,16 @@ unfolding tests
 explained w t isLeap afterLeap l u =
     let nine = leb 9924 t in
     let fifteen = leb 16789 t in
-    let morning = ltb t 19440 in
-    let p = passed w l u (not isLeap) afterLeap nine fifteen morning in
+    let beforeNoon = ltb t 19440 in
+    let p = passed w l u (not isLeap) afterLeap nine fifteen beforeNoon in
     let q = p .1 .1 .1 in
     rw (by-times w t isLeap afterLeap)
     (record {
-      noon = exactly _ 1 _ (p .0) (both (not morning) _ (not-before 19440 t) (passes _));
-      on-weekday = exactly _ 2 _ (p .1 .0) (both morning _ (before 19440 t) (passes _));
-      noon-then-weekday = exactly _ 3 _ (p .1 .1 .0) (both (not morning) _ (not-before 19440 t) (passes _));
-      tuesday = exactly _ 4 _ (q .0) (both (not isLeap && eqb w 3) (nine && morning) (both (not isLeap) (eqb w 3) (fails isLeap) (is w 3)) (both nine morning (from 9924 t) (before 19440 t)));
-      monday = exactly _ 5 _ (q .1 .0) (both (afterLeap && eqb w 2) (fifteen && morning) (both afterLeap (eqb w 2) (passes afterLeap) (is w 2)) (both fifteen morning (from 16789 t) (before 19440 t)));
+      noon = exactly _ 1 _ (p .0) (both (not beforeNoon) _ (not-before 19440 t) (passes _));
+      on-weekday = exactly _ 2 _ (p .1 .0) (both beforeNoon _ (before 19440 t) (passes _));
+      noon-then-weekday = exactly _ 3 _ (p .1 .1 .0) (both (not beforeNoon) _ (not-before 19440 t) (passes _));
+      tuesday = exactly _ 4 _ (q .0) (both (not isLeap && eqb w 3) (nine && beforeNoon) (both (not isLeap) (eqb w 3) (fails isLeap) (is w 3)) (both nine beforeNoon (from 9924 t) (before 19440 t)));
+      monday = exactly _ 5 _ (q .1 .0) (both (afterLeap && eqb w 2) (fifteen && beforeNoon) (both afterLeap (eqb w 2) (passes afterLeap) (is w 2)) (both fifteen beforeNoon (from 16789 t) (before 19440 t)));
       known = leb-true _ _ (q .1 .1 .0);
       days = eqb-true _ _ (q .1 .1 .1 .0);
     })

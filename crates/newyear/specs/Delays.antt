@@ -1,7 +1,7 @@
--- The four delays of New Year, as document 01 has them, and why New Year was delayed, as document 02 asks (§7): the molad
--- of Tishri falls on weekday w, 1 Sunday to 7 Saturday, at time t, 0 to 25,919 parts from 18:00. They are stated for every
--- weekday and every time: no year from 1 to 10,000 has a molad exactly on a limit where its rule applies, so that no test
--- over years can tell "at or later" from "later".
+-- The four delays of New Year, as document 01 has them, and their causes, as document 02 asks for them (§7): the molad of
+-- Tishri falls on weekday w, 1 Sunday to 7 Saturday, at time t, 0 to 25,919 parts from 18:00. They are stated for every
+-- weekday and every time: no year from 1 to 10,000 has a molad exactly on a limit where its rule applies, so that no
+-- test over years can tell "at or later" from "later".
 use mathlib.Core.Bool.{Bool, _&&_, not, cond}
 use mathlib.Core.List.{[], _∷_}
 use Prim.Native.Nat.{ℕ, _+_, _%_}
@@ -53,11 +53,17 @@ infix 80 _daysBy_
 abbrev pub _daysBy_ : ℕ → ℕ → Delayed
 days daysBy cause = record { delay = days; cause = cause }
 
+-- What the rules decide: the Tuesday rule; else the Monday rule; else, at noon or later, whether the next day is a Sunday,
+-- Wednesday or Friday, and before noon whether this day is.
+abbrev pub byRules : Bool → Bool → Bool → Bool → Bool → Delayed
+byRules tuesday monday pastNoon next this =
+    cond tuesday (2 daysBy tuesdayCause)
+    (cond monday (1 daysBy mondayCause)
+    (cond pastNoon
+    (cond next (2 daysBy noonThenWeekday) (1 daysBy noonCause))
+    (cond this (1 daysBy weekdayCause) (0 daysBy noCause))))
+
 -- The days from the molad's day to New Year, and their cause.
 unfoldable pub delayed : ℕ → ℕ → Bool → Bool → Delayed
 delayed w t isLeap afterLeap =
-    cond (tuesdayRule w t isLeap) (2 daysBy tuesdayCause)
-    (cond (mondayRule w t afterLeap) (1 daysBy mondayCause)
-    (cond (fromNoon t)
-    (cond (closed (w + 1)) (2 daysBy noonThenWeekday) (1 daysBy noonCause))
-    (cond (closed w) (1 daysBy weekdayCause) (0 daysBy noCause))))
+    byRules (tuesdayRule w t isLeap) (mondayRule w t afterLeap) (fromNoon t) (closed (w + 1)) (closed w)

@@ -16,9 +16,9 @@ use Rattle.newyear.specs.declared.NewYearAnswer.{NewYearAnswer}
 pub record Explained (w t : ℕ) (isLeap afterLeap : Bool) (delay cause : ℕ) : Type 0 where
   -- At noon or later, and the next day is no Sunday, Wednesday or Friday.
   pub noon : (cause ≡ 1) ↔ ((19440 ≤ t) × (elem w (1 ∷ 2 ∷ 4 ∷ 6 ∷ []) ≡ true))
-  -- Before noon on such a day.
+  -- Before noon on a Sunday, Wednesday or Friday.
   pub on-weekday : (cause ≡ 2) ↔ ((t < 19440) × (elem w (1 ∷ 4 ∷ 6 ∷ []) ≡ true))
-  -- At noon or later on the day before one.
+  -- At noon or later on the day before one of these.
   pub noon-then-weekday : (cause ≡ 3) ↔ ((19440 ≤ t) × (elem w (3 ∷ 5 ∷ 7 ∷ []) ≡ true))
   pub tuesday : (cause ≡ 4) ↔ (((isLeap ≡ false) × (w ≡ 3)) × ((9924 ≤ t) × (t < 19440)))
   pub monday : (cause ≡ 5) ↔ (((afterLeap ≡ true) × (w ≡ 2)) × ((16789 ≤ t) × (t < 19440)))

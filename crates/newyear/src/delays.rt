@@ -1,4 +1,4 @@
-// The four delays, and which of them told.
+// The four delays, and the cause that each gives.
 ghost use Prim.Native.Nat.{_≤_};
 ghost use Rattle.newyear.specs.Steps.{IsDelay};
 
@@ -9,8 +9,8 @@ const TUESDAY_LIMIT: u64 = 9 * 1080 + 204;
 
 const MONDAY_LIMIT: u64 = 15 * 1080 + 589;
 
-// The days from the molad's day to New Year, and the cause: by the molad's weekday before noon, and by 8 more from noon on.
-// No weekday has 0 or 8, which are the places of the Tuesday and the Monday rule.
+// The days from the molad's day to New Year, and the cause: before noon by the molad's weekday, and from noon on by 8
+// more. No weekday has 0 or 8, which are the places of the Tuesday and the Monday rule.
 const DELAYS: [u8; 16] = [2, 1, 0, 0, 1, 0, 1, 0, 1, 1, 1, 2, 1, 2, 1, 2];
 
 const CAUSES: [u8; 16] = [4, 2, 0, 0, 2, 0, 2, 0, 5, 1, 1, 3, 1, 3, 1, 3];

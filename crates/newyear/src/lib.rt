@@ -1,4 +1,4 @@
-// On which day does a Hebrew year begin, how long is it, and which year holds a day.
+// On which day does a Hebrew year begin, and why then; how long is it, and which year holds a day.
 //
 // New Year is the day of the molad of Tishri, or one or two days later. Four delays put it off: a molad at noon or later
 // goes to the next day; New Year falls on no Sunday, Wednesday or Friday; and two rules for a molad late on a Tuesday or

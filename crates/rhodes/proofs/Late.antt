@@ -1,4 +1,4 @@
--- The delays of the two routes agree, for every weekday and every time of the day.
+-- The delays of the two routes and their causes agree, for every weekday and every time of the day.
 use mathlib.Core.Path.{_≡_, refl}
 use mathlib.Core.Bool.{Bool, true, false, not, cond, _&&_, and-false}
 use mathlib.Core.List.{List, [], _∷_}
@@ -8,12 +8,12 @@ use native.Mathlib.Omega.{arith}
 use native.Mathlib.Decide.{decLe}
 use lib.Dec.{eqb, leb, ltb}
 use borrow.Author.Tests.{le-leb, lt-leb, le-ltb, lt-ltb}
-use Rattle.laws.specs.Runs.{every, eitherWay, elem}
+use Rattle.laws.specs.Runs.{every, eitherWay}
 use Rattle.laws.proofs.Tests.{cond-le, at, whether, all, Each, facts}
 use Rattle.newyear.specs.Delays.{closed, delayed}
 use Rattle.newyear.specs.declared.delays.Delayed.{Delayed}
 use Rattle.newyear.proofs.Late.{alike, are-alike, byTimes, by-times}
-use Rattle.rhodes.specs.Rhodes.{moladAugust, moladPart, pastNoon, noonAugust, mondayLine, tuesdayLine, lateBy, delayOf, causeBy, rhodesDelay}
+use Rattle.rhodes.specs.Rhodes.{moladAugust, moladPart, pastNoon, noonAugust, weekdayLine, mondayLine, tuesdayLine, lateBy, delayOf, causeBy, rhodesDelay}
 
 -- After the noon step neither the Monday nor the Tuesday line can fire.
 pub after-noon : (n w t : ℕ) → t < 25920 → (mondayLine n w (t - 19440) ≡ false) × (tuesdayLine n w (t - 19440) ≡ false)
@@ -23,30 +23,31 @@ after-noon n w t u = (
   rw (lt-leb 9924 (t - 19440) (omega arith)) (simp and-false),
 )
 
--- The whole delay by what her lines say: whether there was a noon step, and whether the Monday and the Tuesday line fire.
+-- The whole delay by what her steps say: whether there was a noon step, and whether the Monday or the Tuesday line fires.
 abbrev byLines : Bool → ℕ → Bool → Bool → Delayed
 byLines stepped w monday tuesday =
     record {
-      delay = cond stepped 1 0 + cond (elem w (1 ∷ 4 ∷ 6 ∷ [])) 1 (cond monday 1 (cond tuesday 2 0));
-      cause = cond (elem w (1 ∷ 4 ∷ 6 ∷ [])) (cond stepped 3 2) (cond monday 5 (cond tuesday 4 (cond stepped 1 0)));
+      delay = cond stepped 1 0 + cond (weekdayLine w) 1 (cond monday 1 (cond tuesday 2 0));
+      cause = cond (weekdayLine w) (cond stepped 3 2) (cond monday 5 (cond tuesday 4 (cond stepped 1 0)));
     }
 
--- The two routes on one weekday, from noon on and before it: common year, after a leap year, past the two limits.
+-- The two routes on one weekday, from noon on and before noon: by whether the year is common, whether it follows a leap
+-- year, and whether the time is past the Tuesday and the Monday limit.
 tests : ℕ → Bool → Bool → Bool → Bool → List Bool
 tests w common afterLeap nine fifteen =
-    let early = (w + 0) % 7 in
+    let day = (w + 0) % 7 in
     alike (byTimes w common afterLeap nine fifteen false) (byLines true ((w + 1) % 7) false false)
-    ∷ alike (byTimes w common afterLeap nine fifteen true) (byLines false early (eqb early 2 && afterLeap && fifteen) (eqb early 3 && common && nine)) ∷ []
+    ∷ alike (byTimes w common afterLeap nine fifteen true) (byLines false day (eqb day 2 && afterLeap && fifteen) (eqb day 3 && common && nine)) ∷ []
 
 tests-all : every 1 7 (λ w. eitherWay (λ a. eitherWay (λ b. eitherWay (λ c. eitherWay (λ d. all (tests w a b c d)))))) ≡ true
-unfolding every eitherWay tests alike closed
+unfolding every eitherWay tests alike closed weekdayLine
 tests-all = refl
 
 passed : (w : ℕ) → 1 ≤ w → w ≤ 7 → (a b c d : Bool) → Each (tests w a b c d)
 passed w l u a b c d =
     facts (tests w a b c d) (whether _ (whether _ (whether _ (whether _ (at 1 7 _ tests-all w l (omega arith)) a) b) c) d)
 
--- Her delay, after a noon step of d days, and the cause of the whole.
+-- The d days of the noon step and her delay, and the cause of both.
 abbrev pub herDelay : ℕ → Bool → ℕ → ℕ → ℕ → Delayed
 herDelay d stepped n w f = record { delay = d + lateBy n w f; cause = causeBy stepped n w f }
 
@@ -71,14 +72,14 @@ pub at-her-limits :
     ((pastNoon 19440 ≡ true) × (pastNoon 19439 ≡ false))
     × (((lateBy 12 2 16789 ≡ 1) × ((lateBy 12 2 16788 ≡ 0) × (lateBy 11 2 16789 ≡ 0)))
     × ((lateBy 7 3 9924 ≡ 2) × ((lateBy 7 3 9923 ≡ 0) × (lateBy 6 3 9924 ≡ 0))))
-unfolding pastNoon lateBy mondayLine tuesdayLine
+unfolding pastNoon lateBy weekdayLine mondayLine tuesdayLine
 at-her-limits = ((refl, refl), ((refl, (refl, refl)), (refl, (refl, refl))))
 
 -- Rhodes' delay has at most two days.
 pub late-at-most-two : (n w f : ℕ) → lateBy n w f ≤ 2
 unfolding lateBy
 late-at-most-two n w f =
-    cond-le (elem w (1 ∷ 4 ∷ 6 ∷ [])) 1 _ 2 (omega arith)
+    cond-le (weekdayLine w) 1 _ 2 (omega arith)
     (cond-le (mondayLine n w f) 1 _ 2 (omega arith) (cond-le (tuesdayLine n w f) 2 0 2 (omega arith) (omega arith)))
 
 -- The noon step without a branch: what is taken off the time is no more than the time.

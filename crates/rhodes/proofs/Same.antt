@@ -40,7 +40,8 @@ module _ (h : ℕ) (l : 1 ≤ h) (z : 0 < distance h) where
   falls : (d : ℕ) → weekdayOfAugust h (moladAugust h + d) ≡ (weekday (moladDay h 1) + d) % 7
   falls d = weekday-august h (moladAugust h + d) l ∙ rw (on d) (omega arith)
 
-  -- Where the noon step goes d days on and leaves time f, and the counted delay is those days and Rhodes'.
+  -- Where the noon step goes d days on and leaves time f, and the counted delay is those days and hers, the two delays are
+  -- one.
   reached :
       (d f : ℕ) (stepped : Bool) → noonAugust h ≡ moladAugust h + d → noonPart h ≡ f → pastNoon (moladPart h) ≡ stepped →
       delayed (weekday (moladDay h 1)) (moladPart h) (leap h) (leap (h - 1)) ≡ herDelay d stepped (place h) ((weekday (moladDay h 1) + d) % 7) f →

@@ -44,7 +44,10 @@ noonPart h = cond (pastNoon (moladPart h)) (moladPart h - 19440) (moladPart h)
 unfoldable pub weekdayOfAugust : ℕ → ℕ → ℕ
 weekdayOfAugust h i = (i + 1 + 5 * sinceLeap h + 3 * h) % 7
 
--- The delay of Monday, and that of Tuesday, by n, w and f.
+-- The three lines of the delay: the weekday's by w, Monday's and Tuesday's by n, w and f.
+unfoldable pub weekdayLine : ℕ → Bool
+weekdayLine w = elem w (1 ∷ 4 ∷ 6 ∷ [])
+
 unfoldable pub mondayLine : ℕ → ℕ → ℕ → Bool
 mondayLine n w f = eqb w 2 && ltb 11 n && leb 16789 f
 
@@ -54,7 +57,7 @@ tuesdayLine n w f = eqb w 3 && ltb 6 n && leb 9924 f
 -- 1 if w is 1, 4 or 6; 1 if w = 2, n > 11 and f ≥ 16,789; 2 if w = 3, n > 6 and f ≥ 9,924; else 0.
 unfoldable pub lateBy : ℕ → ℕ → ℕ → ℕ
 lateBy n w f =
-    cond (elem w (1 ∷ 4 ∷ 6 ∷ [])) 1
+    cond (weekdayLine w) 1
     (cond (mondayLine n w f) 1
     (cond (tuesdayLine n w f) 2
     0))
@@ -62,11 +65,11 @@ lateBy n w f =
 unfoldable pub delayOf : ℕ → ℕ
 delayOf h = lateBy (place h) (weekdayOfAugust h (noonAugust h)) (noonPart h)
 
--- Which of these steps it was, as document 02 numbers the causes: that of w alone is the weekday's, or noon's and then the
--- weekday's if there was a noon step; then the lines of Monday and of Tuesday; else the noon step alone, or none.
+-- Which of these steps it was, as document 02 numbers the causes: the line of the weekday, or noon then weekday if there
+-- was a noon step; then the lines of Monday and of Tuesday; else the noon step alone, or none.
 unfoldable pub causeBy : Bool → ℕ → ℕ → ℕ → ℕ
 causeBy stepped n w f =
-    cond (elem w (1 ∷ 4 ∷ 6 ∷ [])) (cond stepped noonThenWeekday weekdayCause)
+    cond (weekdayLine w) (cond stepped noonThenWeekday weekdayCause)
     (cond (mondayLine n w f) mondayCause
     (cond (tuesdayLine n w f) tuesdayCause
     (cond stepped noonCause noCause)))

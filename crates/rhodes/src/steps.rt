@@ -19,16 +19,17 @@ pub struct Route {
     pub weekday: u64,
     // Her delay, from i on.
     pub delay: u64,
-    // That of the whole delay, from i' on.
+    // The cause of the whole delay, from i' on.
     pub cause: u64,
 }
 
+// Her delay, from i on, and the cause of the whole delay, from i' on.
 pub struct Late {
     pub delay: u64,
     pub cause: u64,
 }
 
-// The delay by n, w and f, for all of them, and its cause, to which the noon step belongs.
+// By the noon step, n, w and f, for all of them.
 pub fn late_by(past_noon: bool, place: u64, weekday: u64, part: u64) -> Late
     ensures { λ r. ⌜ IsLate «past_noon» place weekday part r ⌝ }
 {

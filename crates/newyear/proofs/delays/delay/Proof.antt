@@ -1,6 +1,6 @@
 -- Straight line: each `pick` is a `cond`, and the entries at the place picked are what the rules say.
 use borrow.Author.Needs.{needs}
-use mathlib.Core.Path.{_≡_, refl, ap}
+use mathlib.Core.Path.{_≡_, refl}
 use mathlib.Core.Bool.{Bool, true, cond}
 use mathlib.Core.List.{List, [], _∷_}
 use Prim.Native.Nat.{ℕ, _+_, _≤_, _<_}
@@ -10,9 +10,9 @@ use lib.ListN.{getD}
 use borrow.Author.Tests.{ltb-true, leb-true}
 use Rattle.laws.specs.Runs.{every, eitherWay}
 use Rattle.laws.proofs.Tests.{at, whether, all, Each, facts}
-use Rattle.newyear.specs.Delays.{tuesdayRule, mondayRule, fromNoon, closed, delayed}
+use Rattle.newyear.specs.Delays.{tuesdayRule, mondayRule, fromNoon, closed, byRules, delayed}
 use Rattle.newyear.specs.declared.delays.Delayed.{Delayed}
-use Rattle.newyear.proofs.Late.{alike, are-alike, byRules, at-most-two}
+use Rattle.newyear.proofs.Late.{alike, are-alike}
 use Rattle.newyear.proofs.delays.delay.Statement.{statement}
 use Rattle.newyear.proofs.delays.delay.Tie as tie
 
@@ -31,7 +31,7 @@ entries i = record { delay = getD delays i 0; cause = getD causes i 0 }
 tests : ℕ → Bool → Bool → Bool → List Bool
 tests w tuesday monday noon =
     let i = place w tuesday monday noon in
-    alike (entries i) (byRules tuesday monday noon (closed (w + 1)) (closed w)) ∷ ltb i 16 ∷ leb (getD delays i 0) 5 ∷ leb (getD causes i 0) 5 ∷ []
+    alike (entries i) (byRules tuesday monday noon (closed (w + 1)) (closed w)) ∷ ltb i 16 ∷ leb (getD delays i 0) 2 ∷ leb (getD causes i 0) 5 ∷ []
 
 tests-all : every 1 7 (λ w. eitherWay (λ a. eitherWay (λ b. eitherWay (λ c. all (tests w a b c))))) ≡ true
 unfolding every eitherWay tests alike closed
@@ -44,7 +44,7 @@ passed w l u a b c = facts (tests w a b c) (whether _ (whether _ (whether _ (at 
 record Picked (w t : ℕ) (isLeap afterLeap : Bool) (i : ℕ) : Type 0 where
   told : entries i ≡ delayed w t isLeap afterLeap
   inside : i < 16
-  small-delay : getD delays i 0 ≤ 5
+  small-delay : getD delays i 0 ≤ 2
   small-cause : getD causes i 0 ≤ 5
 
 at-place :
@@ -80,7 +80,4 @@ delay-spec =
     (λ c. let p = picked c in record { fits = omega arith })
     (λ c. picked c .inside)
     (λ c. let p = picked c in record { fits = omega arith })
-    (λ c.
-    let a = c .before .before .before .args in
-    let e = picked c .told in
-    (e, rw (ap (λ (d : Delayed). d .delay) e) (at-most-two (a .weekday) (a .time) (a .leap) (a .after-leap)))))
+    (λ c. let p = picked c in (p .told, p .small-delay)))
