@@ -94,16 +94,16 @@ enum bd_month_code {
 };
 
 /*
- * Why New Year comes after the day of Tishri's molad. That day begins at 18:00 the evening before, and noon is 18 hours
- * later.
+ * Why New Year comes after the day of Tishri's molad. That day begins at 18:00 the evening before; hours (h) and parts
+ * (p) count from there, so that noon is 18 h.
  */
 enum bd_cause {
     BD_CAUSE_NONE = 0,              /* it does not: New Year is the day of the molad */
-    BD_CAUSE_NOON = 1,              /* the molad is at noon or later: 1 day */
-    BD_CAUSE_WEEKDAY = 2,           /* the molad, before noon, is on a Sunday, Wednesday or Friday: 1 day */
-    BD_CAUSE_NOON_THEN_WEEKDAY = 3, /* the molad is at noon or later on the day before one of these: 2 days */
-    BD_CAUSE_TUESDAY = 4,           /* common year, molad on a Tuesday from 9 h 204 p to noon: 2 days */
-    BD_CAUSE_MONDAY = 5             /* year after a leap year, molad on a Monday from 15 h 589 p to noon: 1 day */
+    BD_CAUSE_NOON = 1,              /* molad at noon or later: 1 day */
+    BD_CAUSE_WEEKDAY = 2,           /* molad before noon on a Sunday, Wednesday or Friday: 1 day */
+    BD_CAUSE_NOON_THEN_WEEKDAY = 3, /* molad at noon or later on the day before one of these: 2 days */
+    BD_CAUSE_TUESDAY = 4,           /* common year, molad on a Tuesday from 9 h 204 p on, before noon: 2 days */
+    BD_CAUSE_MONDAY = 5             /* year after a leap year, molad on a Monday from 15 h 589 p on, before noon: 1 day */
 };
 
 /* ---- Days and civil dates ---- */
