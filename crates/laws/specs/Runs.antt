@@ -15,7 +15,7 @@ unfoldable pub eachOf : List ℕ → (ℕ → Bool) → Bool
 eachOf [] p = true
 eachOf (x ∷ l) p = p x && eachOf l p
 
--- The test p passes whether or not.
+-- The test p passes for true and for false.
 unfoldable pub eitherWay : (Bool → Bool) → Bool
 eitherWay p = p true && p false
 

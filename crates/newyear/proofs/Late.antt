@@ -1,5 +1,5 @@
--- What the delays do: each rule begins and ends at its very limits; a delay has at most two days; and each cause comes
--- exactly where its rule applies, with its own days.
+-- What the delays do: each rule begins and ends at its very limits, and each cause comes exactly where its rule applies,
+-- with its own days.
 use mathlib.Core.Path.{_≡_, refl, sym, _∙_}
 use mathlib.Core.Bool.{Bool, true, false, _&&_, not, Bool·beq}
 use mathlib.Core.List.{List, [], _∷_}
@@ -44,16 +44,6 @@ unfolding alike
 are-alike a b e =
     let d = eqb-true (a .delay) (b .delay) (and-left _ _ e) in
     let c = eqb-true (a .cause) (b .cause) (and-right (eqb (a .delay) (b .delay)) _ e) in λ i. record { delay = d i; cause = c i }
-
-two-all : eitherWay (λ a. eitherWay (λ b. eitherWay (λ c. eitherWay (λ d. eitherWay (λ e. leb (byRules a b c d e .delay) 2))))) ≡ true
-unfolding eitherWay
-two-all = refl
-
-pub at-most-two : (w t : ℕ) (isLeap afterLeap : Bool) → delayed w t isLeap afterLeap .delay ≤ 2
-unfolding delayed
-at-most-two w t isLeap afterLeap =
-    leb-true _ _
-    (whether _ (whether _ (whether _ (whether _ (whether _ two-all (tuesdayRule w t isLeap)) (mondayRule w t afterLeap)) (fromNoon t)) (closed (w + 1))) (closed w))
 
 -- The delay by what the tests of the time say: at the Tuesday limit or later, at the Monday limit or later, before noon.
 abbrev pub byTimes : ℕ → Bool → Bool → Bool → Bool → Bool → Delayed

@@ -29,7 +29,7 @@ pub struct Late {
     pub cause: u64,
 }
 
-// By the noon step, n, w and f, for all of them.
+// Both, from the noon step, n, w and f, for every value of them.
 pub fn late_by(past_noon: bool, place: u64, weekday: u64, part: u64) -> Late
     ensures { λ r. ⌜ IsLate «past_noon» place weekday part r ⌝ }
 {
