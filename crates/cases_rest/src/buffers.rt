@@ -3,27 +3,32 @@ ghost use Prim.Native.Nat.{_≤_};
 use crate::lines::rest_days;
 use crate::lines::stretches;
 
-fn rest_days_in(year: u64) {
-    rest_days(year, 0);
-    rest_days(year, 1);
-    rest_days(year, 7);
-    rest_days(year, 8);
-    rest_days(year, 11);
-}
-
-fn stretches_in(year: u64, wanted: usize)
+fn rest_days_in(wing: u64, year: u64, wanted: usize)
     requires { ⌜ (1 ≤ wanted) × (wanted ≤ 130) ⌝ }
 {
-    stretches(year, 0);
-    stretches(year, 1);
-    stretches(year, wanted - 1);
-    stretches(year, wanted);
-    stretches(year, wanted + 3);
+    rest_days(wing, year, 0);
+    rest_days(wing, year, 1);
+    rest_days(wing, year, wanted - 1);
+    rest_days(wing, year, wanted);
+    rest_days(wing, year, wanted + 3);
 }
 
-pub fn rows() {
-    rest_days_in(5762);
-    rest_days_in(5775);
-    stretches_in(5775, 106);
-    stretches_in(5779, 118);
+fn stretches_in(wing: u64, year: u64, wanted: usize)
+    requires { ⌜ (1 ≤ wanted) × (wanted ≤ 130) ⌝ }
+{
+    stretches(wing, year, 0);
+    stretches(wing, year, 1);
+    stretches(wing, year, wanted - 1);
+    stretches(wing, year, wanted);
+    stretches(wing, year, wanted + 3);
+}
+
+// How many entries are wanted for the rest days of a year, and for the stretches of 5775 and of 5779.
+pub fn rows(wing: u64, rest_days: usize, of_5775: usize, of_5779: usize)
+    requires { ⌜ ((1 ≤ «rest_days») × («rest_days» ≤ 130)) × (((1 ≤ «of_5775») × («of_5775» ≤ 130)) × ((1 ≤ «of_5779») × («of_5779» ≤ 130))) ⌝ }
+{
+    rest_days_in(wing, 5762, rest_days);
+    rest_days_in(wing, 5775, rest_days);
+    stretches_in(wing, 5775, of_5775);
+    stretches_in(wing, 5779, of_5779);
 }

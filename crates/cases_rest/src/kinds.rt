@@ -2,44 +2,44 @@
 use crate::lines::rest_days;
 use crate::lines::stretches;
 
-fn both(year: u64) {
-    rest_days(year, 140);
-    stretches(year, 140);
+fn both(wing: u64, year: u64) {
+    rest_days(wing, year, 140);
+    stretches(wing, year, 140);
 }
 
 // With 353, 355, 383 and 385 days.
-fn on_monday() {
-    both(5777);
-    both(5783);
-    both(5790);
-    both(5779);
+fn on_monday(wing: u64) {
+    both(wing, 5777);
+    both(wing, 5783);
+    both(wing, 5790);
+    both(wing, 5779);
 }
 
 // With 354 and 384 days.
-fn on_tuesday() {
-    both(5762);
-    both(5782);
+fn on_tuesday(wing: u64) {
+    both(wing, 5762);
+    both(wing, 5782);
 }
 
 // With 354, 355, 383 and 385 days.
-fn on_thursday() {
-    both(5775);
-    both(5785);
-    both(5768);
-    both(5774);
+fn on_thursday(wing: u64) {
+    both(wing, 5775);
+    both(wing, 5785);
+    both(wing, 5768);
+    both(wing, 5774);
 }
 
 // With 353, 355, 383 and 385 days.
-fn on_saturday() {
-    both(5781);
-    both(5770);
-    both(5784);
-    both(5763);
+fn on_saturday(wing: u64) {
+    both(wing, 5781);
+    both(wing, 5770);
+    both(wing, 5784);
+    both(wing, 5763);
 }
 
-pub fn rows() {
-    on_monday();
-    on_tuesday();
-    on_thursday();
-    on_saturday();
+pub fn rows(wing: u64) {
+    on_monday(wing);
+    on_tuesday(wing);
+    on_thursday(wing);
+    on_saturday(wing);
 }

@@ -1,12 +1,19 @@
-// How each answer is printed: all of its numbers, the refusal first; and what a lent buffer holds afterwards.
+// How each answer is printed: all of its numbers, the refusal first; and what a lent buffer holds afterwards. The wing
+// stands above, in a line of its own.
 ghost use Prim.Native.Nat.{_≤_};
 use show::end;
 use show::number;
 use show::signed;
 use show::text;
 
-pub fn stretch(day: u64) {
-    let answer = stretch::stretch(day);
+pub fn wing(number: u64) {
+    text(b"wing");
+    show::number(number);
+    end();
+}
+
+pub fn stretch(wing: u64, day: u64) {
+    let answer = stretch::stretch(wing, day);
     text(b"stretch");
     number(day);
     text(b" ->");
@@ -67,25 +74,25 @@ fn listed(of_stretches: bool, answer: rest::ListAnswer) -> u64 {
     }
 }
 
-fn ask(of_stretches: bool, year: u64, out: &mut [u64]) -> rest::ListAnswer {
+fn ask(of_stretches: bool, wing: u64, year: u64, out: &mut [u64]) -> rest::ListAnswer {
     if of_stretches {
         text(b"stretches");
-        stretch::stretches(year, out)
+        stretch::stretches(wing, year, out)
     } else {
         text(b"rest days");
-        rest::rest_days(year, out)
+        rest::rest_days(wing, year, out)
     }
 }
 
 // The year, how many entries are lent, and the answer.
-fn list(of_stretches: bool, year: u64, room: usize)
+fn list(of_stretches: bool, wing: u64, year: u64, room: usize)
     requires { ⌜ room ≤ 140 ⌝ }
 {
     let mut buffer = [0u64; 140];
     let all: &mut [u64] = &mut buffer;
     let out = &mut all[..room];
     fill(out);
-    let answer = ask(of_stretches, year, out);
+    let answer = ask(of_stretches, wing, year, out);
     number(year);
     number(room as u64);
     text(b" ->");
@@ -94,14 +101,14 @@ fn list(of_stretches: bool, year: u64, room: usize)
     entries(out, listed(of_stretches, answer));
 }
 
-pub fn rest_days(year: u64, room: usize)
+pub fn rest_days(wing: u64, year: u64, room: usize)
     requires { ⌜ room ≤ 140 ⌝ }
 {
-    list(false, year, room);
+    list(false, wing, year, room);
 }
 
-pub fn stretches(year: u64, room: usize)
+pub fn stretches(wing: u64, year: u64, room: usize)
     requires { ⌜ room ≤ 140 ⌝ }
 {
-    list(true, year, room);
+    list(true, wing, year, room);
 }

@@ -8,7 +8,7 @@ use native.Mathlib.Omega.{arith}
 use native.Mathlib.Decide.{decLe}
 use borrow.Author.Tests.{le-ltb}
 use Rattle.laws.specs.Runs.{outside}
-use Rattle.laws.specs.Promise.{Asked, FirstUnmet, Unmet, Rising, Promised, Smallest}
+use Rattle.laws.specs.Promise.{Asked, FirstUnmet, Unmet, Rising, Promised, Smallest, SmallestAfter}
 use Rattle.laws.proofs.Tests.{within}
 
 -- A test that catches what is not met.
@@ -100,4 +100,13 @@ pub smallest :
 smallest {number} {asked} {r} p rising k u =
     by-cases (decLe 1 (number r))
     (λ l. first-smallest asked 1 (number r) k rising (p .refused (number r) l .0 refl) u)
+    (λ l. omega arith)
+
+pub smallest-after :
+    {A : Type 0} {number : A → ℕ} {a : Asked} {asked : List Asked} {Values : A → Type 0} {Besides : ℕ → A → Type 0} {r : A}
+    (p : Promised number (a ∷ asked) Values Besides r) → Rising 1 asked → SmallestAfter p
+smallest-after {number} {asked} {r} p rising m k u =
+    by-cases (decLe 1 (number r))
+    (λ l.
+    ⊎-elim (λ v. absurd (v .0 m)) (λ v. first-smallest asked 1 (number r) k rising (v .1) u) (p .refused (number r) l .0 refl))
     (λ l. omega arith)

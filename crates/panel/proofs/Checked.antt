@@ -28,10 +28,11 @@ use Rattle.hebrew.specs.Months.{daysBefore as hebrewDaysBefore}
 use Rattle.hebrew.specs.Dates.{monthOf}
 use Rattle.hebrew.specs.Steps.{yearDate}
 use Rattle.rest.specs.Table.{restTable}
+use Rattle.rest.specs.Wings.{tableOf}
 use Rattle.rest.specs.Steps.{restAt}
-use Rattle.rest.proofs.Passed.{table-passes}
+use Rattle.rest.proofs.Passed.{tables-pass}
 use Rattle.stretch.specs.Steps.{nextAt, firstFor, pastFor}
-use Rattle.stretch.specs.Answers.{noStretch, stretchOn, stretchAnswer}
+use Rattle.stretch.specs.Answers.{noStretch, stretchOn, wingStretch}
 use Rattle.stretch.proofs.Answered.{worked-out}
 use Rattle.panel.specs.Checked.{BothRoutes, Holds, newYearDay, newYearWeekday, newYearJulian, molad, yearDays, AllHold, done, _and_, daysToCheck}
 
@@ -74,11 +75,11 @@ stretch-row :
     let rest = restAt restTable (weekday n) (next - n) in
     let later = restAt restTable (weekday n + (next - n)) (next - n) in
     let first = n + firstFor rest (next - n) (j - n) in
-    stretchAnswer restTable j ≡ cond (ltb lastDay first) (noStretch 9) (stretchOn j first (n + pastFor rest later (next - n) (j - n)))
-unfolding yearLength
+    wingStretch 1 j ≡ cond (ltb lastDay first) (noStretch 9) (stretchOn j first (n + pastFor rest later (next - n) (j - n)))
+unfolding tableOf yearLength
 stretch-row h n next j y e f a b =
     let x : newYear h + (j - n) ≡ j = omega arith in
-    rw (x, e, f) at (worked-out (record { table = restTable; year = h; ok = table-passes; low = y .0; high = y .1 }) (j - n) (omega arith))
+    rw (x, e, f) at (worked-out (record { table = restTable; year = h; ok = tables-pass 1; low = y .0; high = y .1 }) (j - n) (omega arith))
 
 begins-5775 : newYear 5775 ≡ 2456926
 unfolding quick

@@ -1,4 +1,5 @@
--- Document 01's "Days to check": the rows marked ●, as one table, said of the answers that a caller is given.
+-- Document 01's "Days to check": the rows marked ●, as one table, said of the answers that a caller is given. Its
+-- stretches are wing 1's.
 use mathlib.Core.Path.{_≡_}
 use mathlib.Core.List.{List, [], _∷_}
 use Prim.Native.Nat.{ℕ}
@@ -9,8 +10,7 @@ use Rattle.civil.specs.Answers.{civilDay}
 use Rattle.newyear.specs.Answers.{newYearAnswer, yearAnswer}
 use Rattle.newyear.specs.declared.NewYearAnswer.{NewYearAnswer}
 use Rattle.rhodes.specs.Answers.{rhodesAnswer}
-use Rattle.rest.specs.Table.{restTable}
-use Rattle.stretch.specs.Answers.{stretchAnswer}
+use Rattle.stretch.specs.Answers.{wingStretch}
 
 -- What a row says: of a year's New Year its day, its weekday or its Julian date; of a molad of Tishri its weekday, hour
 -- and part; of a year its length; of a day its stretch.
@@ -34,7 +34,7 @@ Holds (newYearJulian h y m d) = BothRoutes h (λ r. civilDay julian y m d ≡ re
 Holds (molad h w hour part) =
     BothRoutes h (λ r. (weekdayAnswer (r .«molad_day») ≡ record { refusal = 0; weekday = w }) × ((r .«molad_hour» ≡ hour) × (r .«molad_part» ≡ part)))
 Holds (yearDays h n) = (yearAnswer h .refusal ≡ 0) × (yearAnswer h .length ≡ n)
-Holds (stretch j f n d) = stretchAnswer restTable j ≡ record { refusal = 0; first = f; length = n; «days_left» = d }
+Holds (stretch j f n d) = wingStretch 1 j ≡ record { refusal = 0; first = f; length = n; «days_left» = d }
 
 abbrev pub daysToCheck : List Marked
 daysToCheck =

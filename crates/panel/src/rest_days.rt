@@ -1,26 +1,25 @@
-// Rest days and stretches. A lent buffer is as its owner's contract leaves it.
+// Rest days and stretches, of the wing that is named first. A lent buffer is as its owner's contract leaves it.
 ghost use mathlib.Core.Path.{_≡_};
-ghost use Rattle.rest.specs.Table.{restTable};
-ghost use Rattle.rest.specs.Answers.{restDaysAnswer, restDaysBuffer};
-ghost use Rattle.stretch.specs.Answers.{stretchAnswer, stretchesAnswer, stretchesBuffer};
+ghost use Rattle.rest.specs.Answers.{wingRestDays, wingRestDaysBuffer};
+ghost use Rattle.stretch.specs.Answers.{wingStretch, wingStretches, wingStretchesBuffer};
 
 #[no_mangle]
-pub extern "C" fn bd_stretch(day: u64) -> stretch::StretchAnswer
-    ensures { λ r. ⌜ r ≡ stretchAnswer restTable day ⌝ }
+pub extern "C" fn bd_stretch(wing: u64, day: u64) -> stretch::StretchAnswer
+    ensures { λ r. ⌜ r ≡ wingStretch wing day ⌝ }
 {
-    stretch::stretch(day)
+    stretch::stretch(wing, day)
 }
 
 #[no_mangle]
-pub extern "C" fn bd_rest_days(year: u64, out: &mut [u64]) -> rest::ListAnswer
-    ensures { λ r. ⌜ (r ≡ restDaysAnswer restTable year (now (out .entry))) × (now (out .exit) ≡ restDaysBuffer restTable year (now (out .entry))) ⌝ }
+pub extern "C" fn bd_rest_days(wing: u64, year: u64, out: &mut [u64]) -> rest::ListAnswer
+    ensures { λ r. ⌜ (r ≡ wingRestDays wing year (now (out .entry))) × (now (out .exit) ≡ wingRestDaysBuffer wing year (now (out .entry))) ⌝ }
 {
-    rest::rest_days(year, out)
+    rest::rest_days(wing, year, out)
 }
 
 #[no_mangle]
-pub extern "C" fn bd_stretches(year: u64, out: &mut [u64]) -> rest::ListAnswer
-    ensures { λ r. ⌜ (r ≡ stretchesAnswer restTable year (now (out .entry))) × (now (out .exit) ≡ stretchesBuffer restTable year (now (out .entry))) ⌝ }
+pub extern "C" fn bd_stretches(wing: u64, year: u64, out: &mut [u64]) -> rest::ListAnswer
+    ensures { λ r. ⌜ (r ≡ wingStretches wing year (now (out .entry))) × (now (out .exit) ≡ wingStretchesBuffer wing year (now (out .entry))) ⌝ }
 {
-    stretch::stretches(year, out)
+    stretch::stretches(wing, year, out)
 }

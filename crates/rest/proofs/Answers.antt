@@ -9,21 +9,23 @@ use native.Mathlib.Omega.{arith}
 use borrow.Author.Tests.{ltb-true, ltb-false}
 use lib.Dec.{eqb, ltb}
 use lib.ListN.{length, take, drop}
-use Rattle.laws.specs.Promise.{_else_, Promised, Smallest}
+use Rattle.laws.specs.Promise.{_else_, Promised, SmallestAfter}
 use Rattle.laws.specs.Buffer.{Lent, overwrite}
 use Rattle.laws.proofs.One.{one-result}
 use Rattle.laws.proofs.Stores.{list-written}
-use Rattle.laws.proofs.Promises.{Catches, ranged, asks, answered, smallest}
+use Rattle.laws.proofs.Promises.{Catches, ranged, asks, answered, smallest-after}
 use Rattle.molad.specs.Years.{lastYear, InYears, outOfYears}
 use Rattle.hebrew.specs.Dates.{dayNumber}
-use Rattle.rest.specs.Table.{restTable, restDays}
+use Rattle.rest.specs.Table.{restDays}
+use Rattle.rest.specs.Wings.{IsWing, outOfWings, tableOf}
 use Rattle.rest.specs.Steps.{restOn}
-use Rattle.rest.specs.Promises.{RestDaysOf}
-use Rattle.rest.specs.Answers.{listAnswer, listBuffer, restDaysAnswer, restDaysBuffer}
+use Rattle.rest.specs.Promises.{RestDaysOf, restCount, KeptBy}
+use Rattle.rest.specs.Answers.{noList, listAnswer, listBuffer, restDaysAnswer, restDaysBuffer, wingRestDays, wingRestDaysBuffer}
 use Rattle.rest.specs.declared.ListAnswer.{ListAnswer}
 use Rattle.hebrew.specs.declared.date.YearDate.{YearDate}
-use Rattle.rest.proofs.Passed.{table-passes}
+use Rattle.rest.proofs.Passed.{tables-pass}
 use Rattle.rest.proofs.Days.{rest-days-of}
+use Rattle.rest.proofs.Wings.{wing-promised, wing-lent, rest-count}
 
 -- A buffer that is too short is caught.
 room : (buffer list : List ℕ) → Catches (ltb (length buffer) (length list)) (length list ≤ length buffer)
@@ -36,7 +38,7 @@ pub list-promised :
     (λ r. r .count ≡ count) (λ n r. r .count ≡ cond (eqb n 10) (length list) 0) (listAnswer h buffer list count)
 unfolding listAnswer
 list-promised h buffer list count =
-    asks (record { refusal = 1; count = 0 }) (ranged 1 lastYear h) (omega arith) refl refl (λ _.
+    asks (noList 1) (ranged 1 lastYear h) (omega arith) refl refl (λ _.
     asks (record { refusal = 10; count = length list }) (room buffer list) (omega arith) refl refl (λ _. answered refl refl))
 
 -- The buffer.
@@ -46,45 +48,59 @@ list-lent h buffer list count = go (outOfYears h) (ltb (length buffer) (length l
   where
     go :
         (a b : Bool) →
-        Lent (cond {A = ListAnswer} a (record { refusal = 1; count = 0 }) (cond b (record { refusal = 10; count = length list }) (record { refusal = 0; count = count })) .refusal) list
+        Lent (cond a (noList 1) (cond b (record { refusal = 10; count = length list }) (record { refusal = 0; count = count })) .refusal) list
         buffer (cond a buffer (cond b buffer (list ++ drop (length list) buffer)))
     go true b = record { untouched = λ _. refl; written = λ e. absurd (omega arith) }
     go false true = record { untouched = λ _. refl; written = λ e. absurd (omega arith) }
     go false false = record { untouched = λ e. absurd (omega arith); written = λ _. refl }
 
--- The rest days of the year: eight.
+-- The rest days of the year, eight or thirteen.
 pub rest-days-promised :
-    (h : ℕ) (buffer : List ℕ) →
-    Promised (λ (r : ListAnswer). r .refusal) (InYears h else 1 ∷ (8 ≤ length buffer) else 10 ∷ [])
-    (λ r. r .count ≡ 8) (λ n r. r .count ≡ cond (eqb n 10) 8 0) (restDaysAnswer restTable h buffer)
-unfolding restDays
-rest-days-promised h buffer = list-promised h buffer (restDays restTable h) 8
+    (wing h : ℕ) (buffer : List ℕ) →
+    Promised (λ (r : ListAnswer). r .refusal)
+    (IsWing wing else 15 ∷ InYears h else 1 ∷ (restCount wing ≤ length buffer) else 10 ∷ [])
+    (λ r. r .count ≡ restCount wing) (λ n r. r .count ≡ cond (eqb n 10) (restCount wing) 0) (wingRestDays wing h buffer)
+rest-days-promised wing h buffer =
+    rw (← rest-count wing h)
+    (wing-promised wing (noList 15) (λ table. restDaysAnswer table h buffer) refl refl
+    (list-promised h buffer (restDays (tableOf wing) h) (length (restDays (tableOf wing) h))))
 
-pub rest-days-smallest : (h : ℕ) (buffer : List ℕ) → Smallest (rest-days-promised h buffer)
-rest-days-smallest h buffer = smallest (rest-days-promised h buffer) (omega arith, (omega arith, tt))
+-- Of a wing that is 1 or 2.
+pub rest-days-smallest : (wing h : ℕ) (buffer : List ℕ) → SmallestAfter (rest-days-promised wing h buffer)
+rest-days-smallest wing h buffer = smallest-after (rest-days-promised wing h buffer) (omega arith, (omega arith, tt))
 
-pub rest-days-lent : (h : ℕ) (buffer : List ℕ) → Lent (restDaysAnswer restTable h buffer .refusal) (restDays restTable h) buffer (restDaysBuffer restTable h buffer)
-rest-days-lent h buffer = list-lent h buffer (restDays restTable h) (length (restDays restTable h))
+pub rest-days-lent :
+    (wing h : ℕ) (buffer : List ℕ) →
+    Lent (wingRestDays wing h buffer .refusal) (restDays (tableOf wing) h) buffer (wingRestDaysBuffer wing h buffer)
+rest-days-lent wing h buffer =
+    wing-lent wing (restDays (tableOf wing) h) buffer (λ table. restDaysAnswer table h buffer) (λ table. restDaysBuffer table h buffer)
+    (list-lent h buffer (restDays (tableOf wing) h) (length (restDays (tableOf wing) h)))
 
--- What stands in the buffer when the call is done: the days of Tishri 1, 2, 10, 15, 22, Nisan 15, 21 and Sivan 6.
+-- What stands in the buffer when the call is done: the rest days of the year and, by their dates, those of the wing.
 pub rest-days-given :
-    (h : ℕ) (buffer : List ℕ) → restDaysAnswer restTable h buffer .refusal ≡ 0 →
-    let given = take 8 (restDaysBuffer restTable h buffer) in
-    let on : ℕ → ℕ → ℕ = λ month day. dayNumber (record { year = h; month = month; day = day }) in
-    RestDaysOf restTable h given
-    × (given ≡ on 1 1 ∷ on 1 2 ∷ on 1 10 ∷ on 1 15 ∷ on 1 22 ∷ on 8 15 ∷ on 8 21 ∷ on 10 6 ∷ [])
-unfolding restDays
-rest-days-given h buffer z =
-    let met = rest-days-promised h buffer .done .0 z in
-    let e = list-written (restDays restTable h) buffer _ _ 8 (rest-days-lent h buffer) z refl in
-    (rw e (rest-days-of h (met .0 .0) (met .0 .1) restTable table-passes), e)
+    (wing h : ℕ) (buffer : List ℕ) → wingRestDays wing h buffer .refusal ≡ 0 →
+    let given = take (restCount wing) (wingRestDaysBuffer wing h buffer) in
+    RestDaysOf (tableOf wing) h given × KeptBy wing (λ month day. dayNumber (record { year = h; month = month; day = day })) given
+unfolding tableOf restDays
+rest-days-given wing h buffer z =
+    let met = rest-days-promised wing h buffer .done .0 z in
+    let e = list-written (restDays (tableOf wing) h) buffer _ _ (restCount wing) (rest-days-lent wing h buffer) z (rest-count wing h) in (
+      rw e (rest-days-of h (met .1 .0 .0) (met .1 .0 .1) (tableOf wing) (tables-pass wing)),
+      record { first = λ w. rw (e, w); guest = λ w. rw (e, w) },
+    )
 
 -- One answer, and one state of the buffer.
-pub rest-days-one : (h : ℕ) (buffer : List ℕ) (r s : ListAnswer) → r ≡ restDaysAnswer restTable h buffer → s ≡ restDaysAnswer restTable h buffer → r ≡ s
-rest-days-one h buffer = one-result (restDaysAnswer restTable h buffer)
+pub rest-days-one : (wing h : ℕ) (buffer : List ℕ) (r s : ListAnswer) → r ≡ wingRestDays wing h buffer → s ≡ wingRestDays wing h buffer → r ≡ s
+rest-days-one wing h buffer = one-result (wingRestDays wing h buffer)
 
-pub rest-days-buffer-one : (h : ℕ) (buffer r s : List ℕ) → r ≡ restDaysBuffer restTable h buffer → s ≡ restDaysBuffer restTable h buffer → r ≡ s
-rest-days-buffer-one h buffer = one-result (restDaysBuffer restTable h buffer)
+pub rest-days-buffer-one : (wing h : ℕ) (buffer r s : List ℕ) → r ≡ wingRestDaysBuffer wing h buffer → s ≡ wingRestDaysBuffer wing h buffer → r ≡ s
+rest-days-buffer-one wing h buffer = one-result (wingRestDaysBuffer wing h buffer)
 
 pub rest-on-one : (table : List ℕ) (w : ℕ) (date : YearDate) (r s : Bool) → r ≡ restOn table w date → s ≡ restOn table w date → r ≡ s
 rest-on-one table w date = one-result (restOn table w date)
+
+pub out-of-wings-one : (wing : ℕ) (r s : Bool) → r ≡ outOfWings wing → s ≡ outOfWings wing → r ≡ s
+out-of-wings-one wing = one-result (outOfWings wing)
+
+pub no-list-one : (n : ℕ) (r s : ListAnswer) → r ≡ noList n → s ≡ noList n → r ≡ s
+no-list-one n = one-result (noList n)

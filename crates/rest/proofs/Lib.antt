@@ -3,3 +3,4 @@ pub mod Days
 pub mod Passed
 pub mod RestOfYear
 pub mod Rows
+pub mod Wings

@@ -3,3 +3,4 @@ pub mod Check
 pub mod Promises
 pub mod Steps
 pub mod Table
+pub mod Wings

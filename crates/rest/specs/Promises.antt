@@ -1,7 +1,7 @@
--- What a caller of `rest_days` is given: the list of a year's rest days, for a table.
+-- What a caller of `rest_days` is given: the list of a year's rest days, by a table; and the dates of each wing.
 use mathlib.Core.Path.{_≡_}
-use mathlib.Core.Bool.{true, _||_}
-use mathlib.Core.List.{List}
+use mathlib.Core.Bool.{true, _||_, cond}
+use mathlib.Core.List.{List, [], _∷_}
 use Prim.Native.Nat.{ℕ, _<_}
 use lib.Dec.{eqb}
 use lib.ListN.{length, getD}
@@ -20,3 +20,16 @@ pub record RestDaysOf (table : List ℕ) (h : ℕ) (list : List ℕ) : Type 0 wh
   -- A day of the year is in the list exactly if its date is in the table; so a rest day is a Saturday or in the list.
   pub dated : (j : ℕ) → InYear j h → elem j list ≡ inTable table (dateOf j)
   pub no-other : (j : ℕ) → InYear j h → restDay table j ≡ (eqb (weekday j) 7 || elem j list)
+
+-- Wing 1 has eight rest days, the guest wing thirteen.
+abbrev pub restCount : ℕ → ℕ
+restCount wing = cond (eqb wing 1) 8 13
+
+-- They are these, where `on` tells the day of a month code and a day.
+pub record KeptBy (wing : ℕ) (on : ℕ → ℕ → ℕ) (list : List ℕ) : Type 0 where
+  pub first : wing ≡ 1 → list ≡ on 1 1 ∷ on 1 2 ∷ on 1 10 ∷ on 1 15 ∷ on 1 22 ∷ on 8 15 ∷ on 8 21 ∷ on 10 6 ∷ []
+  pub guest :
+      wing ≡ 2 →
+      list
+      ≡ on 1 1 ∷ on 1 2 ∷ on 1 10 ∷ on 1 15 ∷ on 1 16 ∷ on 1 22 ∷ on 1 23
+      ∷ on 8 15 ∷ on 8 16 ∷ on 8 21 ∷ on 8 22 ∷ on 10 6 ∷ on 10 7 ∷ []

@@ -1,4 +1,4 @@
--- The rest days: a table of month code and day, and every Saturday.
+-- The rest days: a table of month code and day for each wing, and every Saturday.
 use mathlib.Core.Bool.{Bool, _&&_, _||_, not}
 use mathlib.Core.List.{List, [], _∷_}
 use Prim.Native.Nat.{ℕ, _+_, _*_, _/_, _%_}
@@ -16,9 +16,15 @@ row month day = 100 * month + day
 abbrev pub rowDate : ℕ → ℕ → Date
 rowDate h r = record { year = h; month = r / 100; day = r % 100 }
 
--- The eight rest days stand in a table, in this order: Tishri 1, 2, 10, 15, 22; Nisan 15, 21; Sivan 6.
+-- Wing 1's eight rest days, document 01's, stand in a table in this order: Tishri 1, 2, 10, 15, 22; Nisan 15, 21; Sivan 6.
 abbrev pub restTable : List ℕ
 restTable = row 1 1 ∷ row 1 2 ∷ row 1 10 ∷ row 1 15 ∷ row 1 22 ∷ row 8 15 ∷ row 8 21 ∷ row 10 6 ∷ []
+
+-- Wing 2, the guest wing, keeps second days too: Tishri 16 and 23, Nisan 16 and 22, Sivan 7. Its thirteen rise with the year.
+abbrev pub guestTable : List ℕ
+guestTable =
+    row 1 1 ∷ row 1 2 ∷ row 1 10 ∷ row 1 15 ∷ row 1 16 ∷ row 1 22 ∷ row 1 23
+    ∷ row 8 15 ∷ row 8 16 ∷ row 8 21 ∷ row 8 22 ∷ row 10 6 ∷ row 10 7 ∷ []
 
 -- The date is a row of the table.
 abbrev pub inTable : List ℕ → Date → Bool

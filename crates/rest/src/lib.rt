@@ -1,7 +1,8 @@
 // Which days are rest days.
 //
-// The rest days of a year stand in a table of month code and day; Saturdays are rest days also. A day is a rest day if it
-// is a Saturday or its month code and day are a row of the table. Every table of rest days is searched by this one rule.
+// The rest days of a year stand in a table of month code and day, one for each wing; Saturdays are rest days also. A day is
+// a rest day of a wing if it is a Saturday or its month code and day are a row of the wing's table. Both tables are
+// searched by this one rule.
 mod table;
 
 ghost use mathlib.Core.Path.{_≡_};
@@ -11,17 +12,31 @@ ghost use lib.ListN.{length as ListN·length};
 ghost use Rattle.laws.specs.Runs.{eachOf};
 ghost use Rattle.laws.specs.Buffer.{overwrite};
 ghost use Rattle.newyear.specs.Spans.{Spans};
-ghost use Rattle.rest.specs.Table.{restTable, restDays};
+ghost use Rattle.rest.specs.Table.{restDays};
+ghost use Rattle.rest.specs.Wings.{tableOf};
 ghost use Rattle.rest.specs.Check.{rowGood};
-ghost use Rattle.rest.specs.Answers.{restDaysAnswer, restDaysBuffer};
+ghost use Rattle.rest.specs.Answers.{noList, wingRestDays, wingRestDaysBuffer};
+use table::GUEST_TABLE;
+pub use table::REST_ROWS;
 use table::REST_TABLE;
-pub use table::ROWS;
+pub use table::out_of_wings;
 pub use table::rest_on;
+use table::rows;
 
 #[repr(C)]
 pub struct ListAnswer {
     pub refusal: u64,
     pub count: u64,
+}
+
+// A step: the answer of a list that is refused with this number, and not for want of room.
+pub fn no_list(number: u64) -> ListAnswer
+    ensures { λ r. ⌜ r ≡ noList number ⌝ }
+{
+    ListAnswer {
+        refusal: number,
+        count: 0,
+    }
 }
 
 // The day numbers of the table's rows in the year, over the start of a buffer that has room for them.
@@ -37,27 +52,41 @@ fn write_days(table: &[u64], span: newyear::Span, out: &mut [u64])
     }
 }
 
-// The day numbers of the year's rest days, in table order. Refusal 1 for a year outside 1..9999; 10 for a buffer of fewer
-// entries than the table has rows, which it leaves as it was.
-pub fn rest_days(year: u64, out: &mut [u64]) -> ListAnswer
-    ensures { λ r. ⌜ (r ≡ restDaysAnswer restTable year (now (out .entry))) × (now (out .exit) ≡ restDaysBuffer restTable year (now (out .entry))) ⌝ }
+// Those of the wing's table.
+fn write_wing(wing: u64, span: newyear::Span, out: &mut [u64])
+    requires { ⌜ (Spans (span .year) span) × (ListN·length (tableOf wing) ≤ ListN·length (now out)) ⌝ }
+    ensures { λ _. ⌜ now (out .exit) ≡ overwrite (now (out .entry)) (restDays (tableOf wing) (span .year)) ⌝ }
 {
-    if (year < 1) | (molad::LAST_YEAR < year) {
-        return ListAnswer {
-            refusal: 1,
-            count: 0,
-        };
+    if wing == 1 {
+        let table = REST_TABLE;
+        write_days(&table, span, out);
+    } else {
+        let table = GUEST_TABLE;
+        write_days(&table, span, out);
     }
-    if out.len() < ROWS {
+}
+
+// The day numbers of the year's rest days, in the order of the wing's table. Refusal 15 for a wing that is neither 1 nor
+// 2; 1 for a year outside 1..9999; 10 for a buffer of fewer entries than the table has rows, which it leaves as it was.
+pub fn rest_days(wing: u64, year: u64, out: &mut [u64]) -> ListAnswer
+    ensures { λ r. ⌜ (r ≡ wingRestDays wing year (now (out .entry))) × (now (out .exit) ≡ wingRestDaysBuffer wing year (now (out .entry))) ⌝ }
+{
+    if out_of_wings(wing) {
+        return no_list(15);
+    }
+    if (year < 1) | (molad::LAST_YEAR < year) {
+        return no_list(1);
+    }
+    let wanted = rows(wing);
+    if out.len() < wanted {
         return ListAnswer {
             refusal: 10,
-            count: ROWS as u64,
+            count: wanted as u64,
         };
     }
-    let table = REST_TABLE;
-    write_days(&table, newyear::year_span(year), out);
+    write_wing(wing, newyear::year_span(year), out);
     ListAnswer {
         refusal: 0,
-        count: ROWS as u64,
+        count: wanted as u64,
     }
 }

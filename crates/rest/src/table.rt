@@ -1,16 +1,50 @@
-// The table of rest days, and the rule that searches it.
+// The tables of rest days, one for each wing, and the rule that searches them.
 use hebrew::YearDate;
 ghost use mathlib.Core.Path.{_≡_};
 ghost use Prim.Native.Nat.{_≤_};
+ghost use lib.ListN.{length as ListN·length};
 ghost use Rattle.laws.specs.Runs.{elem};
-ghost use Rattle.rest.specs.Table.{restTable};
+ghost use Rattle.rest.specs.Wings.{outOfWings, tableOf};
 ghost use Rattle.rest.specs.Steps.{restOn};
 
-// How many rows the table has.
-pub const ROWS: usize = 8;
+// How many rows each table has.
+pub const REST_ROWS: usize = 8;
 
-// Tishri 1, 2, 10, 15, 22; Nisan 15, 21; Sivan 6: a row is 100 × month code + day.
-pub const REST_TABLE: [u64; ROWS] = [1_01, 1_02, 1_10, 1_15, 1_22, 8_15, 8_21, 10_06];
+pub const GUEST_ROWS: usize = 13;
+
+// Wing 1: Tishri 1, 2, 10, 15, 22; Nisan 15, 21; Sivan 6. A row is 100 × month code + day.
+pub const REST_TABLE: [u64; REST_ROWS] = [1_01, 1_02, 1_10, 1_15, 1_22, 8_15, 8_21, 10_06];
+
+// Wing 2, the guest wing: these and second days, Tishri 16, 23; Nisan 16, 22; Sivan 7.
+pub const GUEST_TABLE: [u64; GUEST_ROWS] = [
+    1_01,
+    1_02,
+    1_10,
+    1_15,
+    1_16,
+    1_22,
+    1_23,
+    8_15,
+    8_16,
+    8_21,
+    8_22,
+    10_06,
+    10_07,
+];
+
+// Is the wing neither 1 nor 2?
+pub fn out_of_wings(wing: u64) -> bool
+    ensures { λ r. ⌜ r ≡ outOfWings wing ⌝ }
+{
+    (wing < 1) | (2 < wing)
+}
+
+// How many rows the wing's table has.
+pub fn rows(wing: u64) -> usize
+    ensures { λ r. ⌜ r ≡ ListN·length (tableOf wing) ⌝ }
+{
+    if wing == 1 { REST_ROWS } else { GUEST_ROWS }
+}
 
 // Is there such a row in the table?
 fn among(table: &[u64], row: u64) -> bool
@@ -26,14 +60,28 @@ fn among(table: &[u64], row: u64) -> bool
     false
 }
 
+// Is there such a row in the wing's table? What wing 1 keeps the guest wing keeps too, so that its table comes first.
+fn kept(wing: u64, row: u64) -> bool
+    ensures { λ r. ⌜ r ≡ elem row (tableOf wing) ⌝ }
+{
+    let rest = REST_TABLE;
+    if among(&rest, row) {
+        return true;
+    }
+    if wing == 1 {
+        return false;
+    }
+    let guest = GUEST_TABLE;
+    among(&guest, row)
+}
+
 // A step, for dates of a year whose New Year falls on this weekday, which may be counted on past 7: is it a rest day?
-pub fn rest_on(weekday: u64, date: YearDate) -> bool
+pub fn rest_on(wing: u64, weekday: u64, date: YearDate) -> bool
     requires { ⌜ (weekday ≤ 400) × ((date .after ≤ 400) × ((date .month ≤ 13) × (date .day ≤ 400))) ⌝ }
-    ensures { λ r. ⌜ r ≡ restOn restTable weekday date ⌝ }
+    ensures { λ r. ⌜ r ≡ restOn (tableOf wing) weekday date ⌝ }
 {
     if (weekday + date.after) % 7 == 0 {
         return true;
     }
-    let table = REST_TABLE;
-    among(&table, 100 * date.month + date.day)
+    kept(wing, 100 * date.month + date.day)
 }

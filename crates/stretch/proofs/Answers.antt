@@ -1,4 +1,4 @@
--- What `stretch` and `stretches` promise, for any table that passes the check and so for document 01's; and that each
+-- What `stretch` and `stretches` promise, for any table that passes the check and so for either wing's; and that each
 -- contract leaves one answer and one state of the lent buffer.
 use mathlib.Core.Path.{_≡_, refl, sym}
 use mathlib.Core.Bool.{true}
@@ -12,23 +12,25 @@ use lib.Dec.{ltb}
 use lib.IntN.{pos, negsuc, subℕ}
 use lib.Signed.{_≤ℤ_}
 use lib.ListN.{length, take}
-use Rattle.laws.specs.Promise.{Smallest}
+use Rattle.laws.specs.Promise.{SmallestAfter}
 use Rattle.laws.specs.Buffer.{Lent}
 use Rattle.laws.proofs.One.{one-result}
 use Rattle.laws.proofs.Signed.{minus}
 use Rattle.laws.proofs.Stores.{list-written}
-use Rattle.laws.proofs.Promises.{Catches, ranged, asks, answered, smallest}
+use Rattle.laws.proofs.Promises.{Catches, ranged, asks, answered, smallest-after}
 use Rattle.days.specs.Range.{firstDay, lastDay, InRange}
-use Rattle.rest.specs.Table.{restTable}
+use Rattle.rest.specs.Wings.{tableOf}
 use Rattle.rest.specs.Check.{passes}
-use Rattle.rest.proofs.Passed.{table-passes}
+use Rattle.rest.specs.Answers.{noList}
+use Rattle.rest.proofs.Passed.{tables-pass}
+use Rattle.rest.proofs.Wings.{wing-promised, wing-lent}
 use Rattle.rest.proofs.Answers.{list-promised, list-lent}
 use Rattle.rest.specs.declared.ListAnswer.{ListAnswer}
 use Rattle.stretch.specs.Stretches.{nextRest, stretchFirst, stretchRows}
-use Rattle.stretch.specs.Promises.{StretchAhead, PromisedStretch, StretchesOf, PromisedStretches}
-use Rattle.stretch.specs.Answers.{noStretch, stretchAnswer, stretchesAnswer, stretchesBuffer}
+use Rattle.stretch.specs.Promises.{StretchAhead, Shared, askedOfDay, StretchTold, StretchesOf, askedOfYear, StretchesTold, PromisedStretch, PromisedStretches}
+use Rattle.stretch.specs.Answers.{noStretch, stretchAnswer, stretchesAnswer, stretchesBuffer, wingStretch, wingStretches, wingStretchesBuffer}
 use Rattle.stretch.specs.declared.StretchAnswer.{StretchAnswer}
-use Rattle.stretch.proofs.Theorems.{at-most-three, stretch-for, days-left, none-ahead}
+use Rattle.stretch.proofs.Theorems.{at-most-three, no-crossing, stretch-ahead, stretch-for, days-left, none-ahead}
 use Rattle.stretch.proofs.WholeList.{stretches-of, two-each}
 
 -- Signed, from -2 to 6.
@@ -55,7 +57,20 @@ module _ (table : List ℕ) (ok : passes table ≡ true) where
       (λ p. absurd (none-ahead table ok j i p (m .first) (m .days) (m .a-stretch) (m .not-over)))
       (λ p. omega arith)
 
-  pub stretch-told : (j : ℕ) → PromisedStretch table j (stretchAnswer table j)
+  pub shared : Shared table
+  shared =
+      record {
+        at-most-three = at-most-three table ok;
+        no-crossing = λ f c h r y. no-crossing table ok f c h r (y .0) (y .1);
+        ahead = stretch-ahead table ok;
+        days-left = λ j f c i s.
+            let p = near j i (record { first = f; days = c; a-stretch = s .a-stretch; not-over = s .not-over }) in
+            let t = stretch-for table ok j i p in
+            let e : f ≡ stretchFirst table j = omega (arith, s .earliest _ _ (t .a-stretch) (t .not-over), t .earliest f c (s .a-stretch) (s .not-over)) in
+            rw e (days-left table ok j i p);
+      }
+
+  pub stretch-told : (j : ℕ) → StretchTold (askedOfDay table j) table j (stretchAnswer table j)
   unfolding stretchAnswer
   stretch-told j =
       asks (noStretch 4) (ranged firstDay lastDay j) (omega arith) refl (refl, (refl, refl)) (λ i.
@@ -65,43 +80,54 @@ module _ (table : List ℕ) (ok : passes table ≡ true) where
       answered refl
       (f, (at-most-three table ok _ _ (f .a-stretch), (sym (minus (stretchFirst table j) j), few-left (stretchFirst table j) j (d .0) (d .1))))))
 
-  pub stretches-told : (h : ℕ) (buffer : List ℕ) → PromisedStretches table h buffer (stretchesAnswer table h buffer)
+  pub stretches-told : (h : ℕ) (buffer : List ℕ) → StretchesTold (askedOfYear table h buffer) table h (stretchesAnswer table h buffer)
   stretches-told h buffer =
       let p = list-promised h buffer (stretchRows table h) (length (stretchRows table h) / 2) in
       record { done = p .done; values = λ m. rw (p .values m) (two-each table ok h); refused = p .refused; besides = p .besides }
 
-  pub stretches-lent : (h : ℕ) (buffer : List ℕ) → Lent (stretchesAnswer table h buffer .refusal) (stretchRows table h) buffer (stretchesBuffer table h buffer)
-  stretches-lent h buffer = list-lent h buffer (stretchRows table h) (length (stretchRows table h) / 2)
+-- So for the wing that is named, which is asked first.
+module _ (wing : ℕ) where
+  pub either-wing : Shared (tableOf wing)
+  either-wing = shared (tableOf wing) (tables-pass wing)
+
+  pub stretch-promised : (j : ℕ) → PromisedStretch wing j (wingStretch wing j)
+  stretch-promised j =
+      wing-promised wing (noStretch 15) (λ table. stretchAnswer table j) refl (refl, (refl, refl)) (stretch-told (tableOf wing) (tables-pass wing) j)
+
+  pub stretches-promised : (h : ℕ) (buffer : List ℕ) → PromisedStretches wing h buffer (wingStretches wing h buffer)
+  stretches-promised h buffer =
+      wing-promised wing (noList 15) (λ table. stretchesAnswer table h buffer) refl refl (stretches-told (tableOf wing) (tables-pass wing) h buffer)
+
+  pub stretches-lent :
+      (h : ℕ) (buffer : List ℕ) → Lent (wingStretches wing h buffer .refusal) (stretchRows (tableOf wing) h) buffer (wingStretchesBuffer wing h buffer)
+  stretches-lent h buffer =
+      let rows = stretchRows (tableOf wing) h in
+      wing-lent wing rows buffer (λ table. stretchesAnswer table h buffer) (λ table. stretchesBuffer table h buffer)
+      (list-lent h buffer rows (length rows / 2))
 
   -- What stands in the buffer when the call is done, two entries for each stretch.
   pub stretches-given :
-      (h : ℕ) (buffer : List ℕ) → stretchesAnswer table h buffer .refusal ≡ 0 →
-      StretchesOf table h (take (2 * stretchesAnswer table h buffer .count) (stretchesBuffer table h buffer))
+      (h : ℕ) (buffer : List ℕ) → wingStretches wing h buffer .refusal ≡ 0 →
+      StretchesOf (tableOf wing) h (take (2 * wingStretches wing h buffer .count) (wingStretchesBuffer wing h buffer))
   stretches-given h buffer z =
-      let t = stretches-told h buffer in
+      let t = stretches-promised h buffer in
       let met = t .done .0 z in
-      rw (list-written (stretchRows table h) buffer _ _ _ (stretches-lent h buffer) z (sym (t .values met)))
-      (stretches-of table ok h (met .0 .0) (met .0 .1))
+      rw (list-written (stretchRows (tableOf wing) h) buffer _ _ _ (stretches-lent h buffer) z (sym (t .values met)))
+      (stretches-of (tableOf wing) (tables-pass wing) h (met .1 .0 .0) (met .1 .0 .1))
 
--- So for document 01's table.
-pub stretch-promised : (j : ℕ) → PromisedStretch restTable j (stretchAnswer restTable j)
-stretch-promised = stretch-told restTable table-passes
+  -- Of a wing that is 1 or 2.
+  pub stretch-smallest : (j : ℕ) → SmallestAfter (stretch-promised j)
+  stretch-smallest j = smallest-after (stretch-promised j) (omega arith, (omega arith, tt))
 
-pub stretches-promised : (h : ℕ) (buffer : List ℕ) → PromisedStretches restTable h buffer (stretchesAnswer restTable h buffer)
-stretches-promised = stretches-told restTable table-passes
+  pub stretches-smallest : (h : ℕ) (buffer : List ℕ) → SmallestAfter (stretches-promised h buffer)
+  stretches-smallest h buffer = smallest-after (stretches-promised h buffer) (omega arith, (omega arith, tt))
 
-pub stretch-smallest : (j : ℕ) → Smallest (stretch-promised j)
-stretch-smallest j = smallest (stretch-promised j) (omega arith, (omega arith, tt))
+  -- One answer, and one state of the buffer.
+  pub stretch-one : (j : ℕ) (r s : StretchAnswer) → r ≡ wingStretch wing j → s ≡ wingStretch wing j → r ≡ s
+  stretch-one j = one-result (wingStretch wing j)
 
-pub stretches-smallest : (h : ℕ) (buffer : List ℕ) → Smallest (stretches-promised h buffer)
-stretches-smallest h buffer = smallest (stretches-promised h buffer) (omega arith, (omega arith, tt))
+  pub stretches-one : (h : ℕ) (buffer : List ℕ) (r s : ListAnswer) → r ≡ wingStretches wing h buffer → s ≡ wingStretches wing h buffer → r ≡ s
+  stretches-one h buffer = one-result (wingStretches wing h buffer)
 
--- One answer, and one state of the buffer.
-pub stretch-one : (j : ℕ) (r s : StretchAnswer) → r ≡ stretchAnswer restTable j → s ≡ stretchAnswer restTable j → r ≡ s
-stretch-one j = one-result (stretchAnswer restTable j)
-
-pub stretches-one : (h : ℕ) (buffer : List ℕ) (r s : ListAnswer) → r ≡ stretchesAnswer restTable h buffer → s ≡ stretchesAnswer restTable h buffer → r ≡ s
-stretches-one h buffer = one-result (stretchesAnswer restTable h buffer)
-
-pub stretches-buffer-one : (h : ℕ) (buffer r s : List ℕ) → r ≡ stretchesBuffer restTable h buffer → s ≡ stretchesBuffer restTable h buffer → r ≡ s
-stretches-buffer-one h buffer = one-result (stretchesBuffer restTable h buffer)
+  pub stretches-buffer-one : (h : ℕ) (buffer r s : List ℕ) → r ≡ wingStretchesBuffer wing h buffer → s ≡ wingStretchesBuffer wing h buffer → r ≡ s
+  stretches-buffer-one h buffer = one-result (wingStretchesBuffer wing h buffer)

@@ -1,4 +1,5 @@
--- What `stretch` and `stretches` answer, and what `stretches` makes of a lent buffer.
+-- What `stretch` and `stretches` answer, and what `stretches` makes of a lent buffer. First by a table; then for the wing
+-- that is named.
 use mathlib.Core.Bool.{cond}
 use mathlib.Core.List.{List}
 use Prim.Native.Nat.{ℕ, _-_, _/_}
@@ -6,7 +7,8 @@ use lib.Dec.{ltb}
 use lib.IntN.{pos, subℕ}
 use lib.ListN.{length}
 use Rattle.days.specs.Range.{lastDay, outOfRange}
-use Rattle.rest.specs.Answers.{listAnswer, listBuffer}
+use Rattle.rest.specs.Wings.{ofWing}
+use Rattle.rest.specs.Answers.{noList, listAnswer, listBuffer}
 use Rattle.stretch.specs.Stretches.{nextRest, stretchFirst, stretchPast, stretchRows}
 use Rattle.rest.specs.declared.ListAnswer.{ListAnswer}
 use Rattle.stretch.specs.declared.StretchAnswer.{StretchAnswer}
@@ -31,3 +33,13 @@ stretchesAnswer table h buffer = listAnswer h buffer (stretchRows table h) (leng
 
 abbrev pub stretchesBuffer : List ℕ → ℕ → List ℕ → List ℕ
 stretchesBuffer table h buffer = listBuffer h buffer (stretchRows table h)
+
+-- Refusal 15: the wing is neither 1 nor 2.
+abbrev pub wingStretch : ℕ → ℕ → StretchAnswer
+wingStretch wing j = ofWing wing (noStretch 15) (λ table. stretchAnswer table j)
+
+abbrev pub wingStretches : ℕ → ℕ → List ℕ → ListAnswer
+wingStretches wing h buffer = ofWing wing (noList 15) (λ table. stretchesAnswer table h buffer)
+
+abbrev pub wingStretchesBuffer : ℕ → ℕ → List ℕ → List ℕ
+wingStretchesBuffer wing h buffer = ofWing wing buffer (λ table. stretchesBuffer table h buffer)

@@ -1,18 +1,19 @@
--- What callers are told of a day, and given for a year, for a table.
+-- What callers are told of a day, and given for a year: by a table, and for a wing.
 use mathlib.Core.Path.{_≡_}
 use mathlib.Core.Bool.{cond}
 use mathlib.Core.List.{List, [], _∷_}
-use Prim.Native.Nat.{ℕ, _+_, _*_, _≤_, _<_}
+use Prim.Native.Nat.{ℕ, _+_, _-_, _*_, _≤_, _<_}
 use lib.Dec.{eqb}
 use lib.IntN.{pos, negsuc, _-ℤ_}
 use lib.ListN.{length}
 use lib.Signed.{_≤ℤ_}
-use Rattle.laws.specs.Promise.{_else_, Promised}
+use Rattle.laws.specs.Promise.{Asked, _else_, Promised}
 use Rattle.laws.specs.Search.{Run}
-use Rattle.days.specs.Range.{InRange}
-use Rattle.molad.specs.Years.{InYears}
+use Rattle.days.specs.Range.{lastDay, InRange}
+use Rattle.molad.specs.Years.{InYears, InNewYears}
 use Rattle.newyear.specs.NewYear.{newYear}
 use Rattle.rest.specs.Table.{restDay}
+use Rattle.rest.specs.Wings.{IsWing, tableOf}
 use Rattle.rest.specs.declared.ListAnswer.{ListAnswer}
 use Rattle.stretch.specs.Stretches.{StretchFor, stretchRows}
 use Rattle.stretch.specs.declared.StretchAnswer.{StretchAnswer}
@@ -24,10 +25,21 @@ pub record StretchAhead (table : List ℕ) (j : ℕ) : Type 0 where
   pub a-stretch : Run (restDay table) first days
   pub not-over : j < first + days
 
--- What `stretch` promises for day j.
-abbrev pub PromisedStretch : List ℕ → ℕ → StretchAnswer → Type 0
-PromisedStretch table j =
-    Promised (λ (r : StretchAnswer). r .refusal) (InRange j else 4 ∷ StretchAhead table j else 9 ∷ [])
+-- What the stretches of either wing have in common, and of any table that passes the check: a stretch has one to three
+-- days and crosses no New Year; there is one ahead of every day but the last four; days left are -2 to 6.
+pub record Shared (table : List ℕ) : Type 0 where
+  pub at-most-three : (f c : ℕ) → Run (restDay table) f c → (1 ≤ c) × (c ≤ 3)
+  pub no-crossing : (f c h : ℕ) → Run (restDay table) f c → InNewYears h → f < newYear h → f + c ≤ newYear h
+  pub ahead : (j : ℕ) → InRange j → j ≤ lastDay - 4 → StretchAhead table j
+  pub days-left : (j f c : ℕ) → InRange j → StretchFor table j f c → (f ≤ j + 6) × (j ≤ f + 2)
+
+-- What is asked of day j, and what is told of it by a table where all that is asked is met.
+abbrev pub askedOfDay : List ℕ → ℕ → List Asked
+askedOfDay table j = InRange j else 4 ∷ StretchAhead table j else 9 ∷ []
+
+abbrev pub StretchTold : List Asked → List ℕ → ℕ → StretchAnswer → Type 0
+StretchTold asked table j =
+    Promised (λ (r : StretchAnswer). r .refusal) asked
     (λ r.
     StretchFor table j (r .first) (r .length)
     × (((1 ≤ r .length) × (r .length ≤ 3))
@@ -51,8 +63,18 @@ pub record StretchesOf (table : List ℕ) (h : ℕ) (list : List ℕ) : Type 0 w
   pub only : (f c : ℕ) → Listed f c list → Run (restDay table) f c × ((newYear h ≤ f) × (f < newYear (h + 1)))
   pub rising : FirstDaysRise (newYear h) list
 
--- What `stretches` promises for year h: two entries for each stretch.
-abbrev pub PromisedStretches : List ℕ → ℕ → List ℕ → ListAnswer → Type 0
-PromisedStretches table h buffer =
-    Promised (λ (r : ListAnswer). r .refusal) (InYears h else 1 ∷ (length (stretchRows table h) ≤ length buffer) else 10 ∷ [])
+-- What is asked for year h, and what is told of it by a table: two entries for each stretch.
+abbrev pub askedOfYear : List ℕ → ℕ → List ℕ → List Asked
+askedOfYear table h buffer = InYears h else 1 ∷ (length (stretchRows table h) ≤ length buffer) else 10 ∷ []
+
+abbrev pub StretchesTold : List Asked → List ℕ → ℕ → ListAnswer → Type 0
+StretchesTold asked table h =
+    Promised (λ (r : ListAnswer). r .refusal) asked
     (λ r. 2 * r .count ≡ length (stretchRows table h)) (λ n r. r .count ≡ cond (eqb n 10) (length (stretchRows table h)) 0)
+
+-- What `stretch` and `stretches` promise: by the wing's table, and the wing is asked first.
+abbrev pub PromisedStretch : ℕ → ℕ → StretchAnswer → Type 0
+PromisedStretch wing j = StretchTold (IsWing wing else 15 ∷ askedOfDay (tableOf wing) j) (tableOf wing) j
+
+abbrev pub PromisedStretches : ℕ → ℕ → List ℕ → ListAnswer → Type 0
+PromisedStretches wing h buffer = StretchesTold (IsWing wing else 15 ∷ askedOfYear (tableOf wing) h buffer) (tableOf wing) h

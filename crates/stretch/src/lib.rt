@@ -1,4 +1,4 @@
-// Which stretch of rest days is next, and which stretches has a year.
+// Which stretch of a wing's rest days is next, and which stretches has a year.
 //
 // Rest days next to each other form a stretch of one to three days. No stretch crosses a New Year, 29 Elul never being a
 // rest day and 1 Tishri always, so the code works on the days of one year: it walks through their dates from one to the
@@ -9,8 +9,7 @@ mod runs;
 ghost use mathlib.Core.Path.{_≡_};
 ghost use Prim.Native.Nat.{_≤_};
 ghost use lib.IntN.{subℕ};
-ghost use Rattle.rest.specs.Table.{restTable};
-ghost use Rattle.stretch.specs.Answers.{noStretch, stretchAnswer, stretchesAnswer, stretchesBuffer};
+ghost use Rattle.stretch.specs.Answers.{noStretch, wingStretch, wingStretches, wingStretchesBuffer};
 
 #[repr(C)]
 pub struct StretchAnswer {
@@ -39,16 +38,20 @@ fn refused(number: u64) -> StretchAnswer
     }
 }
 
-// Refusal 4 for a day outside the range; 9 where no stretch in range ends on or after the day.
-pub fn stretch(day: u64) -> StretchAnswer
-    ensures { λ r. ⌜ r ≡ stretchAnswer restTable day ⌝ }
+// Refusal 15 for a wing that is neither 1 nor 2; 4 for a day outside the range; 9 where no stretch in range ends on or
+// after the day.
+pub fn stretch(wing: u64, day: u64) -> StretchAnswer
+    ensures { λ r. ⌜ r ≡ wingStretch wing day ⌝ }
 {
+    if rest::out_of_wings(wing) {
+        return refused(15);
+    }
     if days::out_of_range(day) {
         return refused(4);
     }
     let span = newyear::year_holding(day);
     let weekday = days::weekday_of(span.new_year);
-    let run = runs::run_for(weekday, span.length, day - span.new_year);
+    let run = runs::run_for(wing, weekday, span.length, day - span.new_year);
     let first = span.new_year + run.first;
     if days::LAST_DAY < first {
         return refused(9);
@@ -64,22 +67,22 @@ pub fn stretch(day: u64) -> StretchAnswer
 // The most days that a year has. Its stretches take no more entries than it has days.
 const MOST_DAYS: usize = 385;
 
-// First day and length of each stretch that begins in the year, rising, two entries each. Refusal 1 for a year outside
-// 1..9999; 10 for a buffer that is too short, telling how many entries are wanted; else the answer tells how many
-// stretches.
-pub fn stretches(year: u64, out: &mut [u64]) -> rest::ListAnswer
-    ensures { λ r. ⌜ (r ≡ stretchesAnswer restTable year (now (out .entry))) × (now (out .exit) ≡ stretchesBuffer restTable year (now (out .entry))) ⌝ }
+// First day and length of each stretch that begins in the year, rising, two entries each. Refusal 15 for a wing that is
+// neither 1 nor 2; 1 for a year outside 1..9999; 10 for a buffer that is too short, telling how many entries are wanted;
+// else the answer tells how many stretches.
+pub fn stretches(wing: u64, year: u64, out: &mut [u64]) -> rest::ListAnswer
+    ensures { λ r. ⌜ (r ≡ wingStretches wing year (now (out .entry))) × (now (out .exit) ≡ wingStretchesBuffer wing year (now (out .entry))) ⌝ }
 {
+    if rest::out_of_wings(wing) {
+        return rest::no_list(15);
+    }
     if (year < 1) | (molad::LAST_YEAR < year) {
-        return rest::ListAnswer {
-            refusal: 1,
-            count: 0,
-        };
+        return rest::no_list(1);
     }
     let span = newyear::year_span(year);
     let weekday = days::weekday_of(span.new_year);
     let mut rows = [0u64; MOST_DAYS];
-    let wanted = lists::write_rows(weekday, span.new_year, span.length, &mut rows);
+    let wanted = lists::write_rows(wing, weekday, span.new_year, span.length, &mut rows);
     if out.len() < wanted {
         return rest::ListAnswer {
             refusal: 10,

@@ -4,22 +4,22 @@ ghost use Prim.Native.Nat.{_≤_};
 ghost use lib.ListN.{length as ListN·length};
 ghost use Rattle.laws.specs.Buffer.{overwrite};
 ghost use Rattle.newyear.specs.Kinds.{IsLength};
-ghost use Rattle.rest.specs.Table.{restTable};
+ghost use Rattle.rest.specs.Wings.{tableOf};
 ghost use Rattle.rest.specs.Steps.{restAt};
 ghost use Rattle.stretch.specs.Steps.{rowsAt};
 
-// First day and length of each run of rest days of the year that begins on day `new_year`, over the start of a buffer
+// First day and length of each run of the wing's rest days of the year that begins on day `new_year`, over the start of a buffer
 // that has room for an entry a day; and how many entries they take. A run is written when it has ended.
-pub fn write_rows(weekday: u64, new_year: u64, length: u64, out: &mut [u64]) -> usize
+pub fn write_rows(wing: u64, weekday: u64, new_year: u64, length: u64, out: &mut [u64]) -> usize
     requires { ⌜ (weekday ≤ 7) × ((«new_year» ≤ 5000000) × ((IsLength length) × (length ≤ ListN·length (now out)))) ⌝ }
-    ensures { λ r. ⌜ (r ≡ ListN·length (rowsAt (restAt restTable weekday length) «new_year» length)) × ((r ≤ length)
-        × (now (out .exit) ≡ overwrite (now (out .entry)) (rowsAt (restAt restTable weekday length) «new_year» length))) ⌝ }
+    ensures { λ r. ⌜ (r ≡ ListN·length (rowsAt (restAt (tableOf wing) weekday length) «new_year» length)) × ((r ≤ length)
+        × (now (out .exit) ≡ overwrite (now (out .entry)) (rowsAt (restAt (tableOf wing) weekday length) «new_year» length))) ⌝ }
 {
     let mut n = 0;
     let mut run = 0;
     let mut date = hebrew::date_after(length, 0);
     while date.after < length {
-        let rests = rest::rest_on(weekday, date);
+        let rests = rest::rest_on(wing, weekday, date);
         if !rests & (0 < run) {
             out[n] = new_year + date.after - run;
             out[n + 1] = run;

@@ -1,6 +1,7 @@
 -- The year's runs are worked out into entries of its own, and copied where there is room.
 use borrow.Author.Needs.{needs}
-use mathlib.Core.Path.{_≡_}
+use mathlib.Core.Path.{_≡_, sym, _∙_}
+use mathlib.Core.Bool.{false}
 use native.Mathlib.Omega.{arith}
 use borrow.Author.Tests.{lt-ltb, le-ltb}
 use lib.ListN.{length, take}
@@ -8,10 +9,10 @@ use lib.Seq.{take-append-seam}
 use Rattle.laws.specs.Buffer.{overwrite}
 use Rattle.laws.proofs.Tests.{within}
 use Rattle.molad.specs.Years.{lastYear}
-use Rattle.rest.specs.Table.{restTable}
+use Rattle.rest.specs.Wings.{outOfWings, tableOf}
 use Rattle.rest.specs.Steps.{restAt}
 use Rattle.rest.specs.Answers.{listAnswer, listBuffer}
-use Rattle.rest.proofs.Passed.{table-passes}
+use Rattle.rest.proofs.Passed.{tables-pass}
 use Rattle.stretch.specs.Stretches.{stretchRows}
 use Rattle.stretch.specs.Steps.{rowsAt}
 use Rattle.stretch.proofs.Ended.{stretches-same}
@@ -19,64 +20,85 @@ use Rattle.stretch.proofs.stretches.Statement.{statement}
 use Rattle.stretch.proofs.stretches.Tie as tie
 
 returns : tie.Need-returns
-unfolding listAnswer listBuffer
-returns c = (rw (c .if1 .taken), rw (c .if1 .taken))
+returns c =
+    let t = c .before in
+    let e = sym (t .before .out-of-wings .ensures) ∙ t .if1 .taken in
+    (rw e (c .no-list .ensures), rw e)
 
--- What is worked out is the year's list.
-listed :
-    (c : tie.After-write-rows) →
-    let h = c .before .before .before .before .before .before .args .year in
-    (c .write-rows .result ≡ length (stretchRows restTable h)) × (take (c .write-rows .result) (c .write-rows .last .1 .1 .1 .0) ≡ stretchRows restTable h)
-unfolding overwrite
-listed c =
-    let w = c .before .before in
-    let y = w .before in
-    let h = y .before .before .before .args .year in
-    let e = y .year-span .ensures in
-    let n = c .write-rows .ensures in
-    let same = rw (← e .days, ← e .begins, ← w .weekday-of .ensures) at (stretches-same (record { table = restTable; year = h; ok = table-passes; low = e .first; high = e .last })) in
-    let rest = restAt restTable (w .weekday-of .result) (y .year-span .result .length) in
-    let rows = rowsAt rest (y .year-span .result .«new_year») (y .year-span .result .length) in
-    rw (same, n .1 .1) (n .0, rw (n .0) (take-append-seam rows _))
+-- The wing is 1 or 2.
+named : (c : tie.Else1) → outOfWings (c .before .before .before .args .wing) ≡ false
+named c = sym (c .before .out-of-wings .ensures) ∙ c .if1 .left
 
 returns-2 : tie.Need-returns-2
 unfolding listAnswer listBuffer
 returns-2 c =
+    let t = c .before in
+    let o = named (t .before) in
+    (rw (o, t .if2 .taken) (c .no-list2 .ensures), rw (o, t .if2 .taken))
+
+-- What is worked out is the year's list.
+listed :
+    (c : tie.After-write-rows) →
+    let a = c .before .before .before .before .before .before .before .before .args in
+    let list = stretchRows (tableOf (a .wing)) (a .year) in
+    (c .write-rows .result ≡ length list) × (take (c .write-rows .result) (c .write-rows .last .1 .1 .1 .1 .0) ≡ list)
+unfolding overwrite
+listed c =
+    let w = c .before .before in
+    let y = w .before in
+    let a = y .before .before .before .before .before .args in
+    let table = tableOf (a .wing) in
+    let e = y .year-span .ensures in
+    let n = c .write-rows .ensures in
+    let same = rw (← e .days, ← e .begins, ← w .weekday-of .ensures) at (stretches-same (record { table = table; year = a .year; ok = tables-pass (a .wing); low = e .first; high = e .last })) in
+    let rest = restAt table (w .weekday-of .result) (y .year-span .result .length) in
+    let rows = rowsAt rest (y .year-span .result .«new_year») (y .year-span .result .length) in
+    rw (same, n .1 .1) (n .0, rw (n .0) (take-append-seam rows _))
+
+returns-3 : tie.Need-returns-3
+unfolding listAnswer listBuffer
+returns-3 c =
     let r = c .before .before in
-    let o = r .before .before .before .before .if1 .left in
+    let y = r .before .before .before .before in
+    let o = named (y .before) in
     let n = listed r .0 in
-    let t = lt-ltb _ _ (c .if2 .taken) in
-    (rw (o, ← n, t), rw (o, ← n, t))
+    let t = lt-ltb _ _ (c .if3 .taken) in
+    (rw (o, y .if2 .left, ← n, t), rw (o, y .if2 .left, ← n, t))
 
 copy-requires : tie.Need-copy-requires
 copy-requires c κs =
     let t = c .before .before in
     let w = listed (t .before .before) in
-    rw (w .1, ← w .0) (t .if2 .left)
+    rw (w .1, ← w .0) (t .if3 .left)
 
-returns-3 : tie.Need-returns-3
+returns-4 : tie.Need-returns-4
 unfolding listAnswer listBuffer
-returns-3 c =
+returns-4 c =
     let k = c .before .before in
     let t = k .before .before .before in
     let r = t .before .before in
-    let o = r .before .before .before .before .if1 .left in
+    let y = r .before .before .before .before in
+    let o = named (y .before) in
     let w = listed r in
-    let f = le-ltb _ _ (t .if2 .left) in
-    (rw (o, ← w .0, f), rw (o, ← w .0, f) (rw (w .1) at (k .copy .ensures)))
+    let f = le-ltb _ _ (t .if3 .left) in
+    (rw (o, y .if2 .left, ← w .0, f), rw (o, y .if2 .left, ← w .0, f) (rw (w .1) at (k .copy .ensures)))
 
 pub stretches-spec : {M : Type 1} → statement M
 stretches-spec =
     tie.close
     (tie.spec
+    (search needs)
+    (search needs)
     returns
-    (λ c κs. within 1 lastYear _ (c .if1 .left))
+    (search needs)
+    returns-2
+    (λ c κs. within 1 lastYear _ (c .if2 .left))
     (search needs)
     (search needs)
     (λ c κs. let e = c .before .before .year-span .ensures in let m = e .measured in (omega arith, (omega arith, (m, omega arith))))
-    returns-2
+    returns-3
     (search needs)
     (λ c. let w = listed (c .before .before .before) in rw (w .1) (w .0))
     copy-requires
     (search needs)
-    returns-3)
+    returns-4)

@@ -4,10 +4,10 @@ use Rattle.cases_rest.proofs.walk.every_year.Statement.{statement}
 use Rattle.cases_rest.proofs.walk.every_year.Tie as tie
 
 abbrev Inv-loop : tie.InvT-loop
-Inv-loop sum₀ year₀ sum year = Unit {0}
+Inv-loop wing sum₀ year₀ sum year = Unit {0}
 
 abbrev μ-loop : tie.MeasureT-loop
-μ-loop sum₀ year₀ sum year = 10000 - year
+μ-loop wing sum₀ year₀ sum year = 10000 - year
 
 pub every-year-spec : {M : Type 1} → statement M
 every-year-spec =

@@ -12,5 +12,4 @@ rest-on-spec =
     (search needs)
     (search needs)
     (search needs)
-    (search needs)
-    (λ c. rw (ne-eqb _ _ (c .before .before .before .before .if1 .left)) (c .among .ensures)))
+    (λ c. rw (ne-eqb _ _ (c .before .before .before .if1 .left)) (c .kept .ensures)))

@@ -12,7 +12,7 @@ use Rattle.laws.specs.Search.{runStart}
 use Rattle.laws.proofs.Stores.{over-two}
 use Rattle.hebrew.specs.Steps.{yearDate}
 use Rattle.hebrew.proofs.Walked.{tomorrow-is}
-use Rattle.rest.specs.Table.{restTable}
+use Rattle.rest.specs.Wings.{tableOf}
 use Rattle.rest.specs.Steps.{restAt}
 use Rattle.stretch.specs.Steps.{runBefore, rowsAt}
 use Rattle.stretch.proofs.Growing.{ends, run-more, run-few, rows-yes, rows-no, rows-short}
@@ -21,13 +21,13 @@ use Rattle.stretch.proofs.lists.write_rows.Statement.{statement}
 use Rattle.stretch.proofs.lists.write_rows.Tie as tie
 
 abbrev Inv-loop : tie.InvT-loop
-Inv-loop weekday newYear length out₀ n₀ run₀ date₀ out n run date =
-    (date .after ≤ length) × (date ≡ yearDate length (date .after)) × (run ≡ runBefore (restAt restTable weekday length) (date .after))
-    × (n ≡ count (rowsAt (restAt restTable weekday length) newYear (date .after))) × (count out ≡ count out₀)
-    × (out ≡ overwrite out₀ (rowsAt (restAt restTable weekday length) newYear (date .after)))
+Inv-loop wing weekday newYear length out₀ n₀ run₀ date₀ out n run date =
+    (date .after ≤ length) × (date ≡ yearDate length (date .after)) × (run ≡ runBefore (restAt (tableOf wing) weekday length) (date .after))
+    × (n ≡ count (rowsAt (restAt (tableOf wing) weekday length) newYear (date .after))) × (count out ≡ count out₀)
+    × (out ≡ overwrite out₀ (rowsAt (restAt (tableOf wing) weekday length) newYear (date .after)))
 
 abbrev μ-loop : tie.MeasureT-loop
-μ-loop weekday newYear length out₀ n₀ run₀ date₀ out n run date = length - date .after
+μ-loop wing weekday newYear length out₀ n₀ run₀ date₀ out n run date = length - date .after
 
 loop-holds : tie.Need-loop-holds Inv-loop μ-loop
 unfolding overwrite rowsAt runBefore runStart yearDate
@@ -44,17 +44,17 @@ told :
     (c : tie.After-rest-on Inv-loop μ-loop) →
     let l = c .before .before .before in
     let a = l .before .before .before .args in
-    restAt restTable (a .weekday) (a .length) (l .loop .date .after) ≡ c .rest-on .result
+    restAt (tableOf (a .wing)) (a .weekday) (a .length) (l .loop .date .after) ≡ c .rest-on .result
 told c =
     let l = c .before .before .before in
     let a = l .before .before .before .args in
-    sym (c .rest-on .ensures ∙ walked-rests (a .length) (l .loop .date) (l .loop .inv .1) restTable (a .weekday))
+    sym (c .rest-on .ensures ∙ walked-rests (a .length) (l .loop .date) (l .loop .inv .1) (tableOf (a .wing)) (a .weekday))
 
 ended :
     (c : tie.After-rest-on Inv-loop μ-loop) (b : Bool) →
     let l = c .before .before .before in
     let a = l .before .before .before .args in
-    not (c .rest-on .result) && ltb 0 (l .loop .run) ≡ b → ends (restAt restTable (a .weekday) (a .length)) (l .loop .date .after) ≡ b
+    not (c .rest-on .result) && ltb 0 (l .loop .run) ≡ b → ends (restAt (tableOf (a .wing)) (a .weekday) (a .length)) (l .loop .date .after) ≡ b
 ended c b e = let l = c .before .before .before in rw (told c, ← l .loop .inv .2) e
 
 -- In the arm that stores there is room for the run.
@@ -63,7 +63,7 @@ room c =
     let l = c .before .before .before .before in
     let s = l .before .before .before in
     let a = s .args in
-    let rest = restAt restTable (a .weekday) (a .length) in
+    let rest = restAt (tableOf (a .wing)) (a .weekday) (a .length) in
     let k = l .loop .date .after in
     let y = simp length-append at (ap count (rows-yes rest (a .new-year) k (ended (c .before) true (c .if2 .taken)))) in
     omega (arith, rows-short rest (a .new-year) (k + 1), s .pre .1 .1 .1)
@@ -71,7 +71,7 @@ room c =
 few : (c : tie.At-loop Inv-loop μ-loop) → (c .loop .run ≤ c .loop .date .after) × (c .loop .n ≤ c .loop .date .after)
 few c =
     let a = c .before .before .before .args in
-    let rest = restAt restTable (a .weekday) (a .length) in
+    let rest = restAt (tableOf (a .wing)) (a .weekday) (a .length) in
     (omega (arith, c .loop .inv .2, run-few rest (c .loop .date .after)), omega (arith, c .loop .inv .3, rows-short rest (a .new-year) (c .loop .date .after)))
 
 next :
@@ -95,7 +95,7 @@ loop-again c =
     let l = r .before .before .before in
     let a = l .before .before .before .args in
     let i = l .loop .inv in
-    let rest = restAt restTable (a .weekday) (a .length) in
+    let rest = restAt (tableOf (a .wing)) (a .weekday) (a .length) in
     let k = l .loop .date .after in
     let run : c .before .pick .result ≡ runBefore rest (k + 1) = rw (run-more rest k, told r, ← i .2) (c .before .pick .ensures .0) in
     rw (next c)

@@ -6,23 +6,23 @@ use native.Mathlib.Omega.{arith}
 use Rattle.laws.specs.Search.{seek}
 use Rattle.hebrew.specs.Steps.{yearDate}
 use Rattle.hebrew.proofs.Walked.{tomorrow-is}
-use Rattle.rest.specs.Table.{restTable}
+use Rattle.rest.specs.Wings.{tableOf}
 use Rattle.rest.specs.Steps.{restAt}
 use Rattle.stretch.proofs.Walk.{search-here, search-on, search-end, walked-small, walked-rests}
 use Rattle.stretch.proofs.runs.first_day.Statement.{statement}
 use Rattle.stretch.proofs.runs.first_day.Tie as tie
 
 -- The day is a rest day or none, as wanted.
-abbrev asked : ℕ → ℕ → Bool → ℕ → Bool
-asked weekday length wanted k = cond wanted (restAt restTable weekday length k) (not (restAt restTable weekday length k))
+abbrev asked : ℕ → ℕ → ℕ → Bool → ℕ → Bool
+asked wing weekday length wanted k = cond wanted (restAt (tableOf wing) weekday length k) (not (restAt (tableOf wing) weekday length k))
 
 abbrev Inv-loop : tie.InvT-loop
-Inv-loop weekday length wanted date₀ date =
+Inv-loop wing weekday length wanted date₀ date =
     (date .after ≤ length) × (date ≡ yearDate length (date .after))
-    × (seek (asked weekday length wanted) (length - date₀ .after) (date₀ .after) ≡ seek (asked weekday length wanted) (length - date .after) (date .after))
+    × (seek (asked wing weekday length wanted) (length - date₀ .after) (date₀ .after) ≡ seek (asked wing weekday length wanted) (length - date .after) (date .after))
 
 abbrev μ-loop : tie.MeasureT-loop
-μ-loop weekday length wanted date₀ date = length - date .after
+μ-loop wing weekday length wanted date₀ date = length - date .after
 
 loop-holds : tie.Need-loop-holds Inv-loop μ-loop
 loop-holds c = (omega arith, c .pre .1 .1 .1, refl)
@@ -46,9 +46,9 @@ returns c =
     let l = r .before .before .before in
     let s = l .before .args in
     let date = l .loop .date in
-    let w = walked-rests (s .length) date (l .loop .inv .1) restTable (s .weekday) in
-    let e : asked (s .weekday) (s .length) (s .wanted) (date .after) ≡ true = rw (← w, ← r .rest-on .ensures) (told (r .rest-on .result) (s .wanted) ∙ c .if2 .taken) in
-    rw (l .loop .inv .2, search-here (asked (s .weekday) (s .length) (s .wanted)) (s .length) (date .after) (omega arith) e) (l .loop .inv .1)
+    let w = walked-rests (s .length) date (l .loop .inv .1) (tableOf (s .wing)) (s .weekday) in
+    let e : asked (s .wing) (s .weekday) (s .length) (s .wanted) (date .after) ≡ true = rw (← w, ← r .rest-on .ensures) (told (r .rest-on .result) (s .wanted) ∙ c .if2 .taken) in
+    rw (l .loop .inv .2, search-here (asked (s .wing) (s .weekday) (s .length) (s .wanted)) (s .length) (date .after) (omega arith) e) (l .loop .inv .1)
 
 next-date-requires : tie.Need-next-date-requires Inv-loop μ-loop
 next-date-requires c κs =
@@ -74,9 +74,9 @@ loop-again c =
     let l = r .before .before .before in
     let s = l .before .args in
     let date = l .loop .date in
-    let w = walked-rests (s .length) date (l .loop .inv .1) restTable (s .weekday) in
-    let e : asked (s .weekday) (s .length) (s .wanted) (date .after) ≡ false = rw (← w, ← r .rest-on .ensures) (told (r .rest-on .result) (s .wanted) ∙ c .before .if2 .left) in
-    let on = l .loop .inv .2 ∙ search-on (asked (s .weekday) (s .length) (s .wanted)) (s .length) (date .after) (omega arith) e in
+    let w = walked-rests (s .length) date (l .loop .inv .1) (tableOf (s .wing)) (s .weekday) in
+    let e : asked (s .wing) (s .weekday) (s .length) (s .wanted) (date .after) ≡ false = rw (← w, ← r .rest-on .ensures) (told (r .rest-on .result) (s .wanted) ∙ c .before .if2 .left) in
+    let on = l .loop .inv .2 ∙ search-on (asked (s .wing) (s .weekday) (s .length) (s .wanted)) (s .length) (date .after) (omega arith) e in
     rw (next c) (omega arith, refl, on)
 
 returns-2 : tie.Need-returns-2 Inv-loop μ-loop
@@ -84,7 +84,7 @@ returns-2 c =
     let l = c .before .before in
     let s = l .before .args in
     let date = l .loop .date in
-    rw (l .loop .inv .2, search-end (asked (s .weekday) (s .length) (s .wanted)) (s .length) (date .after) (omega arith)) (l .loop .inv .1)
+    rw (l .loop .inv .2, search-end (asked (s .wing) (s .weekday) (s .length) (s .wanted)) (s .length) (date .after) (omega arith)) (l .loop .inv .1)
 
 pub first-day-spec : {M : Type 1} → statement M
 first-day-spec =

@@ -9,7 +9,7 @@ use Rattle.laws.specs.Search.{seekNot}
 use Rattle.laws.proofs.Found.{Seek, seek-tells}
 use Rattle.hebrew.specs.Steps.{yearDate}
 use Rattle.hebrew.proofs.Walked.{tomorrow-is}
-use Rattle.rest.specs.Table.{restTable}
+use Rattle.rest.specs.Wings.{tableOf}
 use Rattle.rest.specs.Steps.{restAt}
 use Rattle.stretch.specs.Steps.{nextAt, firstFor, pastFor}
 use Rattle.stretch.proofs.Walk.{at-date, search-on, walked-small}
@@ -25,11 +25,11 @@ next :
     (c : tie.After-first-day) →
     let a = c .before .before .args in
     let d = c .first-day .result in
-    (d .after ≡ nextAt (restAt restTable (a .weekday) (a .length)) (a .length) (a .x)) × (d ≡ yearDate (a .length) (d .after))
+    (d .after ≡ nextAt (restAt (tableOf (a .wing)) (a .weekday) (a .length)) (a .length) (a .x)) × (d ≡ yearDate (a .length) (d .after))
 unfolding nextAt
 next c = at-date _ _ _ (rw (begun (c .before) .0) at (c .first-day .ensures))
 
-told : (c : tie.After-first-day) → let a = c .before .before .args in Seek (restAt restTable (a .weekday) (a .length)) (a .length - a .x) (a .x) (c .first-day .result .after)
+told : (c : tie.After-first-day) → let a = c .before .before .args in Seek (restAt (tableOf (a .wing)) (a .weekday) (a .length)) (a .length - a .x) (a .x) (c .first-day .result .after)
 unfolding nextAt
 told c = rw (next c .0) (seek-tells _ _ _)
 
@@ -57,14 +57,14 @@ ends :
     let d = c .before .before .before .before .first-day .result in
     let a = c .before .before .before .before .before .before .args in
     let k = c .first-day2 .result .after in
-    (k ≡ seekNot (restAt restTable (a .weekday) (a .length)) (a .length - d .after) (d .after)) × Seek (λ k. not (restAt restTable (a .weekday) (a .length) k)) (a .length - d .after) (d .after) k
+    (k ≡ seekNot (restAt (tableOf (a .wing)) (a .weekday) (a .length)) (a .length - d .after) (d .after)) × Seek (λ k. not (restAt (tableOf (a .wing)) (a .weekday) (a .length) k)) (a .length - d .after) (d .after) k
 unfolding seekNot
 ends c =
     let t = c .before .before in
     let f = t .before .before in
     let a = f .before .before .args in
     let n = f .first-day .result .after in
-    let rest = restAt restTable (a .weekday) (a .length) in
+    let rest = restAt (tableOf (a .wing)) (a .weekday) (a .length) in
     let on = search-on (λ k. not (rest k)) (a .length) n (t .if1 .taken) (rw (told f .pass (omega arith))) in
     let e = at-date _ _ _ (rw (after (c .before) .0) at (c .first-day2 .ensures)) .0 ∙ sym on in (e, rw e (seek-tells _ _ _))
 
@@ -74,7 +74,7 @@ first c = at-date _ 0 _ (c .date-after2 .ensures)
 ends-next :
     (c : tie.After-first-day3) →
     let a = c .before .before .before .before .before .before .args in
-    let next = restAt restTable (a .weekday + a .length) (a .length) in
+    let next = restAt (tableOf (a .wing)) (a .weekday + a .length) (a .length) in
     let k = c .first-day3 .result .after in
     (k ≡ seekNot next (a .length) 0) × Seek (λ k. not (next k)) (a .length) 0 k
 unfolding seekNot

@@ -6,17 +6,17 @@ use native.Mathlib.Omega.{arith}
 use borrow.Author.Tests.{not-true, not-false}
 use Rattle.laws.specs.Search.{runStart}
 use Rattle.hebrew.proofs.Walked.{date-small}
-use Rattle.rest.specs.Table.{restTable}
+use Rattle.rest.specs.Wings.{tableOf}
 use Rattle.rest.specs.Steps.{restAt}
 use Rattle.stretch.proofs.Walk.{back-here, back-on}
 use Rattle.stretch.proofs.runs.run_start.Statement.{statement}
 use Rattle.stretch.proofs.runs.run_start.Tie as tie
 
 abbrev Inv-loop : tie.InvT-loop
-Inv-loop weekday length x first₀ first = (first ≤ x) × (runStart (restAt restTable weekday length) x ≡ runStart (restAt restTable weekday length) first)
+Inv-loop wing weekday length x first₀ first = (first ≤ x) × (runStart (restAt (tableOf wing) weekday length) x ≡ runStart (restAt (tableOf wing) weekday length) first)
 
 abbrev μ-loop : tie.MeasureT-loop
-μ-loop weekday length x first₀ first = first
+μ-loop wing weekday length x first₀ first = first
 
 loop-holds : tie.Need-loop-holds Inv-loop μ-loop
 loop-holds c = (search needs, refl)
@@ -31,7 +31,7 @@ rest-on-requires c κs =
 told :
     (c : tie.After-rest-on Inv-loop μ-loop) →
     let l = c .before .before .before in
-    restAt restTable (l .before .args .weekday) (l .before .args .length) (l .loop .first - 1) ≡ c .rest-on .result
+    restAt (tableOf (l .before .args .wing)) (l .before .args .weekday) (l .before .args .length) (l .loop .first - 1) ≡ c .rest-on .result
 unfolding restAt
 told c = sym (rw (c .before .date-after .ensures) at (c .rest-on .ensures))
 
