@@ -5,23 +5,23 @@
 help:
 	@sed -n 's/^    \(make .*\)/\1/p' README.md
 
-# What is typed for YEAR, DATE, TIME and SUNSET is text. It goes to the programs by the environment, and neither make nor a
-# shell reads a command in it. Blanks around it are dropped: make itself drops those before it.
+# What is typed for YEAR, WING, DATE, TIME and SUNSET is text. It goes to the programs by the environment, and neither make
+# nor a shell reads a command in it. Blanks around it are dropped: make itself drops those before it.
 define text
 ifneq ($$(origin $(1)),undefined)
 override $(1) := $$(strip $$(value $(1)))
 export $(1)
 endif
 endef
-$(foreach name,YEAR DATE TIME SUNSET,$(eval $(call text,$(name))))
+$(foreach name,YEAR WING DATE TIME SUNSET,$(eval $(call text,$(name))))
 
 # Without a YEAR, the year that it is now.
 year:
 	@tools/year $${YEAR+"$$YEAR"}
 
-# Without a DATE, today. CC names another compiler, for x86-64 Linux.
+# Without a WING, wing 1; without a DATE, today. CC names another compiler, for x86-64 Linux.
 panel:
-	@examples/run panel "$${DATE-today}" "$${TIME-}" "$${SUNSET-}"
+	@examples/run panel "$${WING:-1}" "$${DATE-today}" "$${TIME-}" "$${SUNSET-}"
 
 test:
 	bash .ci/run

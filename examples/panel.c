@@ -1,9 +1,9 @@
 /*
- * A battery room's panel, to start from: for a civil date, a time and the hall's sunset it shows the Hebrew day,
- * whether the bank carries the load, and the days left to the first day of the stretch of rest days.
+ * A battery room's panel, to start from: for a wing, a civil date, a time and the hall's sunset it shows the Hebrew
+ * day, whether the bank carries the load, and the days left to the first day of the wing's stretch of rest days.
  *
- *     panel 2014-09-24 20:00 18:52
- *     panel today
+ *     panel 1 2014-09-24 20:00 18:52
+ *     panel 2 today
  *
  * A Hebrew day begins in the evening. The library knows no sunset, so the panel sees to it: before the hall's sunset it
  * asks for the civil day, and from sunset on for the day after.
@@ -49,6 +49,9 @@ static bool mark(const char **text, char c)
     ++*text;
     return true;
 }
+
+/* A number of one to nineteen figures, which 64 bits hold; whether it is a wing is the library's to say. */
+static bool read_wing(const char *text, uint64_t *wing) { return figures(&text, 1, 19, wing) && *text == '\0'; }
 
 /* YYYY-MM-DD: a year of one to nine figures, with a minus sign where it is below zero; two figures for each other. */
 static bool read_date(const char *text, moment *m)
@@ -102,12 +105,12 @@ static bool since_sunset(const moment *m) { return m->time >= m->sunset; }
 
 static void show_clock(uint64_t time) { printf("%02" PRIu64 ":%02" PRIu64, time / HOUR, time % HOUR); }
 
-/* Shows a moment of a civil day, and the Hebrew day that it lies in; both are in range. */
-static void show_day(const moment *m, uint64_t civil, uint64_t day)
+/* Shows the wing, a moment of a civil day, and the Hebrew day that it lies in; both days are in range. */
+static void show_day(uint64_t wing, const moment *m, uint64_t civil, uint64_t day)
 {
     bd_hebrew_date hebrew = bd_day_to_hebrew(day);
 
-    printf("%" PRId64 "-%02" PRIu64 "-%02" PRIu64 " %s ", m->year, m->month, m->date,
+    printf("wing %" PRIu64 ", %" PRId64 "-%02" PRIu64 "-%02" PRIu64 " %s ", wing, m->year, m->month, m->date,
            bd_weekday_name(bd_weekday(civil).weekday));
     show_clock(m->time);
     printf(", %s sunset (", since_sunset(m) ? "since" : "before");
@@ -116,24 +119,26 @@ static void show_day(const moment *m, uint64_t civil, uint64_t day)
            bd_month_name(hebrew.month, hebrew.length), hebrew.year);
 }
 
-static int refused(const char *date, const char *when, uint64_t refusal)
+static int refused(uint64_t wing, const char *date, const char *when, uint64_t refusal)
 {
-    fprintf(stderr, "panel: %s%s: %s (refusal %" PRIu64 ")\n", date, when, bd_refusal_name(refusal), refusal);
+    fprintf(stderr, "panel: wing %" PRIu64 ", %s%s: %s (refusal %" PRIu64 ")\n", wing, date, when,
+            bd_refusal_name(refusal), refusal);
     return 1;
 }
 
-static int show(const char *date, const moment *m)
+/* A bad wing is told before a bad date: the day of a refused date is 0, and bd_stretch looks at the wing first. */
+static int show(uint64_t wing, const char *date, const moment *m)
 {
     bd_civil_day civil = bd_gregorian_to_day(m->year, m->month, m->date);
-    if (civil.refusal != BD_DONE) return refused(date, "", civil.refusal);
-
     uint64_t day = since_sunset(m) ? civil.day + 1 : civil.day;
     const char *when = since_sunset(m) ? " since sunset" : "";
-    bd_stretch_answer stretch = bd_stretch(day);
+    bd_stretch_answer stretch = bd_stretch(wing, day);
+    if (stretch.refusal == BD_BAD_WING) return refused(wing, date, "", stretch.refusal);
+    if (civil.refusal != BD_DONE) return refused(wing, date, "", civil.refusal);
     bool none = stretch.refusal == BD_NO_STRETCH; /* the last days of the range have no stretch after them */
-    if (stretch.refusal != BD_DONE && !none) return refused(date, when, stretch.refusal);
+    if (stretch.refusal != BD_DONE && !none) return refused(wing, date, when, stretch.refusal);
 
-    show_day(m, civil.day, day);
+    show_day(wing, m, civil.day, day);
     printf("bank %s the load\n", !none && stretch.days_left <= 0 ? "ON" : "off");
     if (none)
         printf("days left --\n");
@@ -144,15 +149,17 @@ static int show(const char *date, const moment *m)
 
 int main(int argc, char **argv)
 {
+    uint64_t wing;
     moment m;
-    const char *at = argc > 2 ? argv[2] : "", *sunset = argc > 3 ? argv[3] : "";
-    if (argc < 2 || argc > 4 || !read_moment(argv[1], at, sunset, &m)) {
-        fprintf(stderr, "usage: panel DATE [TIME [SUNSET]]\n"
+    const char *at = argc > 3 ? argv[3] : "", *sunset = argc > 4 ? argv[4] : "";
+    if (argc < 3 || argc > 5 || !read_wing(argv[1], &wing) || !read_moment(argv[2], at, sunset, &m)) {
+        fprintf(stderr, "usage: panel WING DATE [TIME [SUNSET]]\n"
+                        "WING is 1 or, for the guest wing, 2;\n"
                         "DATE is a Gregorian date, as 2014-09-27 or -3760-09-07, or the word today;\n"
                         "TIME and SUNSET are hours and minutes, as 18:52, and the sunset is after noon;\n"
                         "without TIME it is noon, and for today the time that it is now;\n"
                         "without SUNSET it is 18:00, the calendar's hour and not your hall's sunset\n");
         return 2;
     }
-    return show(argv[1], &m);
+    return show(wing, argv[2], &m);
 }

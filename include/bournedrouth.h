@@ -14,6 +14,7 @@
  *   - The evening. No call is told the time, and the hall's sunset is the panel's own: before it ask for the number of
  *     the civil day, from sunset on for the day after, that number plus 1. A panel that changes the day at midnight is
  *     hours late, with putting the bank on the load and with taking it off.
+ *   - The wing. 1 and 2 are both good: a panel that names the other wing is told of the other wing's rest days.
  *   - A pointer must be valid and aligned for uint64_t. Where the length given with it is 0 it may be NULL: it is proved
  *     that no entry is touched then, and seen in the archive's code and tested for every year that no more is asked of
  *     the pointer.
@@ -35,15 +36,15 @@
  * Within a major version no call, struct, field, number or answer that stands here changes or goes, and a program that
  * was built with an earlier minor version builds and is answered as it was. A minor version adds.
  */
-#define BD_VERSION_MAJOR 2
+#define BD_VERSION_MAJOR 3
 #define BD_VERSION_MINOR 0
-#define BD_VERSION "2.0"
+#define BD_VERSION "3.0"
 
 #ifdef __cplusplus
 extern "C" {
 #endif
 
-/* Why there is no answer. Where several apply, the smallest is given. */
+/* Why there is no answer. Where several apply, BD_BAD_WING comes before all others, and else the smallest is given. */
 enum bd_refusal {
     BD_DONE = 0,                    /* there is an answer */
     BD_BAD_YEAR = 1,                /* Hebrew year outside 1..9999 (1..10,000 for bd_new_year and bd_new_year_rhodes) */
@@ -55,7 +56,8 @@ enum bd_refusal {
     BD_BAD_CIVIL_DAY = 7,           /* civil day outside its month */
     BD_CIVIL_DATE_OUT_OF_RANGE = 8, /* a good civil date whose day lies outside the range */
     BD_NO_STRETCH = 9,              /* no stretch in range ends on or after the day */
-    BD_BUFFER_TOO_SHORT = 10        /* the lent buffer has no room for the list */
+    BD_BUFFER_TOO_SHORT = 10,       /* the lent buffer has no room for the list */
+    BD_BAD_WING = 15                /* wing neither 1 nor 2 */
 };
 
 /* The range of day numbers: 1 Tishri 1 and 29 Elul 9999. */
@@ -235,6 +237,12 @@ bd_hebrew_date bd_day_to_hebrew(uint64_t day);
 
 /* ---- Rest days and stretches ---- */
 
+/* The wings. Every question about rest days or stretches names one first. Saturdays are rest days of both. */
+enum bd_wing {
+    BD_WING_1 = 1,    /* eight rest days: Tishri 1, 2, 10, 15, 22; Nisan 15, 21; Sivan 6 */
+    BD_GUEST_WING = 2 /* thirteen, these and the second days: Tishri 16, 23; Nisan 16, 22; Sivan 7 */
+};
+
 typedef struct bd_stretch_answer {
     uint64_t refusal;
     uint64_t first; /* day number of the stretch's first day */
@@ -246,37 +254,37 @@ typedef struct bd_stretch_answer {
  * What a list tells. The count has two units: how many rest days or stretches were written or, with
  * BD_BUFFER_TOO_SHORT, how many entries of the buffer are wanted. NULL and 0 ask for the room:
  *
- *     bd_list_answer room = bd_stretches(5762, NULL, 0);    // BD_BUFFER_TOO_SHORT, and a count of 112 entries
+ *     bd_list_answer room = bd_stretches(BD_WING_1, 5762, NULL, 0);  // BD_BUFFER_TOO_SHORT, and a count of 112 entries
  *     uint64_t *out = malloc(room.count * sizeof *out);
- *     bd_list_answer list = bd_stretches(5762, out, room.count);    // BD_DONE, and a count of 56 stretches
+ *     bd_list_answer list = bd_stretches(BD_WING_1, 5762, out, room.count);  // BD_DONE, and a count of 56 stretches
  */
 typedef struct bd_list_answer {
     uint64_t refusal;
     uint64_t count;
 } bd_list_answer;
 
-/* Entries with room for the rest days of a year, and for the stretches of any year. */
-#define BD_REST_DAYS_ROOM 8
+/* Entries with room, in either wing, for the rest days of a year (8 and 13), and for the stretches of any year. */
+#define BD_REST_DAYS_ROOM 13
 #define BD_STRETCHES_ROOM 120
 
 /*
- * The earliest stretch of rest days whose last day is the day asked or later. From the hall's sunset on, ask for the
- * day after. Refusals: 4, 9.
+ * The earliest stretch of a wing's rest days whose last day is the day asked or later. From the hall's sunset on, ask
+ * for the day after. Refusals: 15, 4, 9.
  */
-bd_stretch_answer bd_stretch(uint64_t day);
+bd_stretch_answer bd_stretch(uint64_t wing, uint64_t day);
 
 /*
- * Writes the day numbers of a year's eight rest days, in the table's order, and tells 8. Refusals: 1, 10. A refused
- * call leaves the whole buffer as it was; otherwise the entries beyond the list stay as they were.
+ * Writes the day numbers of a wing's eight or thirteen rest days of a year, rising, and tells 8 or 13. Refusals: 15, 1,
+ * 10. A refused call leaves the whole buffer as it was; otherwise the entries beyond the list stay as they were.
  */
-bd_list_answer bd_rest_days(uint64_t year, uint64_t *out, size_t length);
+bd_list_answer bd_rest_days(uint64_t wing, uint64_t year, uint64_t *out, size_t length);
 
 /*
- * Writes first day and length of each stretch that begins in a year, rising, two entries each, and tells how many
- * stretches. Refusals: 1, 10. A refused call leaves the whole buffer as it was; otherwise the entries beyond the list
- * stay as they were. The call keeps 385 entries of its own, 3,080 bytes, on the stack.
+ * Writes first day and length of each stretch of a wing that begins in a year, rising, two entries each, and tells how
+ * many stretches. Refusals: 15, 1, 10. A refused call leaves the whole buffer as it was; otherwise the entries beyond
+ * the list stay as they were. The call keeps 385 entries of its own, 3,080 bytes, on the stack.
  */
-bd_list_answer bd_stretches(uint64_t year, uint64_t *out, size_t length);
+bd_list_answer bd_stretches(uint64_t wing, uint64_t year, uint64_t *out, size_t length);
 
 #ifdef __cplusplus
 }

@@ -1,14 +1,14 @@
 /*
  * Every day of the range against a walk of this file's own: three calendars turned over day by day, a weekday counted
- * round the seven, and the runs of rest days as they come.
+ * round the seven, and each wing's runs of rest days as they come.
  */
 #include "check.h"
 
 #include "walk.h"
 
-enum { FIRST = 347998, LAST = 4000075, MOST_DAYS = 385 };
+enum { FIRST = 347998, LAST = 4000075, MOST_DAYS = 385, WINGS = 2 };
 
-static unsigned char rests[LAST - FIRST + 2]; /* the day after the last is none */
+static unsigned char rests[WINGS + 1][LAST - FIRST + 2]; /* by the wing's number; the day after the last is none */
 
 typedef struct {
     int64_t year;
@@ -59,15 +59,18 @@ static void turn_hebrew(hebrew *h)
     }
 }
 
-static const unsigned char TABLE[BD_REST_DAYS_ROOM][2] = {{1, 1},  {1, 2},  {1, 10}, {1, 15},
-                                                          {1, 22}, {8, 15}, {8, 21}, {10, 6}};
+/* Month code and day of each rest day, and the first wing that keeps it: wing 2 keeps those of wing 1 too. */
+static const unsigned char TABLE[][3] = {
+    {1, 1, 1},  {1, 2, 1},  {1, 10, 1}, {1, 15, 1}, {1, 16, 2}, {1, 22, 1}, {1, 23, 2},
+    {8, 15, 1}, {8, 16, 2}, {8, 21, 1}, {8, 22, 2}, {10, 6, 1}, {10, 7, 2},
+};
 
-/* The date's place in the table of rest days, or the table's length. */
-static size_t feast(const hebrew *h)
+/* The first wing that keeps the date, or a number beyond the wings. */
+static uint64_t kept_from(const hebrew *h)
 {
-    size_t i = 0;
-    while (i < COUNT(TABLE) && (TABLE[i][0] != h->month || TABLE[i][1] != h->day)) ++i;
-    return i;
+    for (size_t i = 0; i < COUNT(TABLE); ++i)
+        if (TABLE[i][0] == h->month && TABLE[i][1] == h->day) return TABLE[i][2];
+    return WINGS + 1;
 }
 
 /* Asked without a buffer, a list tells how many entries it wants. */
@@ -76,18 +79,19 @@ static void wanted(bd_list_answer got, uint64_t entries)
     same("refusal without a buffer", got.refusal, BD_BUFFER_TOO_SHORT), same("entries wanted", got.count, entries);
 }
 
-/* Keeps a year's rest days as they come, and holds the year's list against them on its last day. */
-static void kept(uint64_t day, const hebrew *h)
+/* Notes a wing's rest days of a year as they come, and holds the year's list against them on its last day. */
+static void note(uint64_t wing, uint64_t day, const hebrew *h, int keeps)
 {
-    static uint64_t list[BD_REST_DAYS_ROOM];
-    uint64_t out[BD_REST_DAYS_ROOM];
-    size_t place = feast(h);
-    if (place < COUNT(TABLE)) list[place] = day;
+    static uint64_t list[WINGS + 1][COUNT(TABLE)], count[WINGS + 1];
+    uint64_t out[COUNT(TABLE)];
+    if (keeps) list[wing][count[wing]++] = day;
     if (h->month != BD_ELUL || h->day != 29) return;
-    bd_list_answer got = bd_rest_days(h->year, out, COUNT(out));
-    same("refusal of the rest days", got.refusal, 0), same("count", got.count, COUNT(TABLE));
-    for (size_t i = 0; i < COUNT(TABLE); ++i) same("rest day", out[i], list[i]);
-    wanted(bd_rest_days(h->year, NULL, 0), COUNT(TABLE));
+    asking("bd_rest_days(%" PRIu64 ", %" PRIu64 ", out, %zu)", wing, h->year, COUNT(out));
+    bd_list_answer got = bd_rest_days(wing, h->year, out, COUNT(out));
+    same("refusal", got.refusal, 0), same("count", got.count, count[wing]);
+    for (size_t i = 0; i < count[wing]; ++i) same("entry", out[i], list[wing][i]);
+    wanted(bd_rest_days(wing, h->year, NULL, 0), count[wing]);
+    count[wing] = 0;
 }
 
 static void civil_day(uint64_t day, const civil *c)
@@ -115,12 +119,12 @@ static void hebrew_day(uint64_t day, const hebrew *h)
     same("refusal of the year", year.refusal, 0), same("year of the day", year.year, h->year);
 }
 
-/* A year's stretches, found in the days that rest, against its list. */
-static uint64_t year_lists(uint64_t year)
+/* A year's stretches in a wing, found in the days that rest, against its list. */
+static uint64_t year_lists(uint64_t wing, uint64_t year)
 {
     uint64_t out[BD_STRETCHES_ROOM], list[2 * MOST_DAYS], n = 0; /* a stretch on every day would find room */
     for (uint64_t day = new_year_of(year); day < new_year_of(year + 1); ++day) {
-        if (!rests[day - FIRST]) continue;
+        if (!rests[wing][day - FIRST]) continue;
         if (n > 0 && list[n - 2] + list[n - 1] == day) {
             ++list[n - 1];
             continue;
@@ -128,39 +132,40 @@ static uint64_t year_lists(uint64_t year)
         list[n++] = day;
         list[n++] = 1;
     }
-    asking("bd_stretches(%" PRIu64 ", out, %d)", year, BD_STRETCHES_ROOM);
+    asking("bd_stretches(%" PRIu64 ", %" PRIu64 ", out, %d)", wing, year, BD_STRETCHES_ROOM);
     same("entries beyond BD_STRETCHES_ROOM", n > BD_STRETCHES_ROOM ? n - BD_STRETCHES_ROOM : 0, 0);
-    bd_list_answer got = bd_stretches(year, out, BD_STRETCHES_ROOM);
+    bd_list_answer got = bd_stretches(wing, year, out, BD_STRETCHES_ROOM);
     same("refusal", got.refusal, 0), same("count", got.count, n / 2);
     for (uint64_t i = 0; i < n; ++i) same("entry", out[i], list[i]);
-    wanted(bd_stretches(year, NULL, 0), n);
+    wanted(bd_stretches(wing, year, NULL, 0), n);
     return n;
 }
 
-static void stretches(void)
+/* `most` entries hold the stretches of any year in the wing, and no fewer do. */
+static void stretches(uint64_t wing, uint64_t most)
 {
-    uint64_t first, day = FIRST, most = 0;
+    uint64_t first, day = FIRST, found = 0;
     for (uint64_t year = 1; year <= YEARS; ++year) {
-        uint64_t n = year_lists(year);
-        if (n > most) most = n;
+        uint64_t n = year_lists(wing, year);
+        if (n > found) found = n;
     }
-    asking("the most entries that a year's stretches take");
-    same("BD_STRETCHES_ROOM", BD_STRETCHES_ROOM, most);
+    asking("the stretches of any year in wing %" PRIu64, wing);
+    same("the most entries", found, most);
     for (first = FIRST; first <= LAST; ++first) {
         uint64_t past = first;
-        while (rests[past - FIRST]) ++past;
+        while (rests[wing][past - FIRST]) ++past;
         if (past == first) continue;
         for (; day < past; ++day) {
-            bd_stretch_answer got = bd_stretch(day);
-            asking("bd_stretch(%" PRIu64 ")", day);
+            bd_stretch_answer got = bd_stretch(wing, day);
+            asking("bd_stretch(%" PRIu64 ", %" PRIu64 ")", wing, day);
             same("refusal", got.refusal, 0), same("first", got.first, first), same("length", got.length, past - first);
             same_signed("days_left", got.days_left, (int64_t)first - (int64_t)day);
         }
         first = past;
     }
     for (; day <= LAST; ++day) {
-        asking("bd_stretch(%" PRIu64 ")", day);
-        same("refusal", bd_stretch(day).refusal, BD_NO_STRETCH);
+        asking("bd_stretch(%" PRIu64 ", %" PRIu64 ")", wing, day);
+        same("refusal", bd_stretch(wing, day).refusal, BD_NO_STRETCH);
     }
 }
 
@@ -169,19 +174,25 @@ void every_day(void)
     civil julian = {-3760, 10, 7, 0}, gregorian = {-3760, 9, 7, 1};
     hebrew h = {1, 1, 1, year_length(1)};
     uint64_t weekday = BD_MONDAY;
-    begin("every day in three calendars, every rest day and stretch");
+    begin("every day in three calendars, every rest day and stretch of both wings");
     for (uint64_t day = FIRST; day <= LAST; ++day) {
         asking("day %" PRIu64, day);
         same("weekday", bd_weekday(day).weekday, weekday);
         civil_day(day, &julian), civil_day(day, &gregorian);
         hebrew_day(day, &h);
-        kept(day, &h);
-        rests[day - FIRST] = weekday == BD_SATURDAY || feast(&h) < COUNT(TABLE);
+        uint64_t from = kept_from(&h);
+        for (uint64_t wing = 1; wing <= WINGS; ++wing) {
+            rests[wing][day - FIRST] = weekday == BD_SATURDAY || from <= wing;
+            note(wing, day, &h, from <= wing);
+        }
         weekday = weekday == 7 ? 1 : weekday + 1;
         turn_civil(&julian), turn_civil(&gregorian), turn_hebrew(&h);
     }
     asking("the day after the last");
     same("Hebrew year", h.year, YEARS + 1);
-    stretches();
+    asking("the rest days of a year in the wing that keeps most");
+    same("BD_REST_DAYS_ROOM", BD_REST_DAYS_ROOM, COUNT(TABLE));
+    stretches(BD_WING_1, BD_STRETCHES_ROOM);
+    stretches(BD_GUEST_WING, 118);
     end();
 }

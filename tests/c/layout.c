@@ -83,14 +83,18 @@ static void large_structs(void)
     AT(bd_hebrew_date, year, 1), AT(bd_hebrew_date, month, 2), AT(bd_hebrew_date, day, 3);
     AT(bd_hebrew_date, new_year, 4), AT(bd_hebrew_date, length, 5), AT(bd_hebrew_date, day_of_year, 6);
 
-    placed(raw_stretch(fresh(), 2456928));
+    placed(raw_stretch(fresh(), BD_WING_1, 2456928));
     WORDS(bd_stretch_answer, 0, 2456926, 3, (uint64_t)INT64_C(-2));
+    placed(raw_stretch(fresh(), BD_GUEST_WING, 2456941));
+    WORDS(bd_stretch_answer, 0, 2456940, 3, (uint64_t)INT64_C(-1));
     AT(bd_stretch_answer, first, 1), AT(bd_stretch_answer, length, 2), AT(bd_stretch_answer, days_left, 3);
-    placed(raw_stretch(fresh(), 0));
+    placed(raw_stretch(fresh(), BD_WING_1, 0));
     WORDS(bd_stretch_answer, 4, 0, 0, 0);
+    placed(raw_stretch(fresh(), 0, 0));
+    WORDS(bd_stretch_answer, 15, 0, 0, 0);
 
     asking("the numbers that can be below zero");
-    same("days_left", bd_stretch(2456928).days_left < 0, 1);
+    same("days_left", bd_stretch(BD_WING_1, 2456928).days_left < 0, 1);
     same("year of a Julian date", bd_day_to_julian(BD_FIRST_DAY).year < 0, 1);
 }
 
@@ -120,6 +124,6 @@ void layout(void)
     PAIR(bd_year_of_day_answer, year, bd_year_of_day(2452171), 5762);
     PAIR(bd_month_answer, days, bd_month_length(5762, 1), 30);
     PAIR(bd_hebrew_day, day, bd_hebrew_to_day(5762, 8, 15), 2452362);
-    PAIR(bd_list_answer, count, bd_rest_days(5762, entries, COUNT(entries)), 8);
+    PAIR(bd_list_answer, count, bd_rest_days(BD_GUEST_WING, 5762, entries, COUNT(entries)), 13);
     end();
 }

@@ -44,15 +44,30 @@ extern "C" {
     fn bd_day_to_hebrew(day: u64) -> HebrewDate;
     fn bd_hebrew_to_day(year: u64, month: u64, day: u64) -> Pair;
     fn bd_month_length(year: u64, month: u64) -> Pair;
-    fn bd_stretch(day: u64) -> Stretch;
-    fn bd_stretches(year: u64, out: *mut u64, length: usize) -> Pair;
+    fn bd_stretch(wing: u64, day: u64) -> Stretch;
+    fn bd_stretches(wing: u64, year: u64, out: *mut u64, length: usize) -> Pair;
 }
 
 const HOUR: u64 = 1080;
 const DAY: u64 = 24 * HOUR;
 const MONTH: u64 = 29 * DAY + 12 * HOUR + 793;
 const FIRST_DAY: u64 = 347_998;
-const REST_TABLE: [(u64, u64); 8] = [(1, 1), (1, 2), (1, 10), (1, 15), (1, 22), (8, 15), (8, 21), (10, 6)];
+/// Month, day and the first wing that keeps it: wing 2 keeps those of wing 1 too.
+const REST_TABLE: [(u64, u64, u64); 13] = [
+    (1, 1, 1),
+    (1, 2, 1),
+    (1, 10, 1),
+    (1, 15, 1),
+    (1, 16, 2),
+    (1, 22, 1),
+    (1, 23, 2),
+    (8, 15, 1),
+    (8, 16, 2),
+    (8, 21, 1),
+    (8, 22, 2),
+    (10, 6, 1),
+    (10, 7, 2),
+];
 
 fn leap(year: u64) -> bool {
     matches!(year % 19, 0 | 3 | 6 | 8 | 11 | 14 | 17)
@@ -133,8 +148,17 @@ fn new_years(years: &[Begins]) -> u64 {
     2 * years.len() as u64
 }
 
-/// Every day of a year there and back, and the days that rest; returns how many days it has.
-fn dates(year: u64, new_year: u64, length: u64, rest: &mut Vec<u64>) -> u64 {
+/// The first wing in which a day rests, if it does in one.
+fn rests_from(day: u64, month: u64, date: u64) -> Option<u64> {
+    if weekday(day) == 7 {
+        return Some(1);
+    }
+    REST_TABLE.iter().find(|row| (row.0, row.1) == (month, date)).map(|row| row.2)
+}
+
+/// Every day of a year there and back, and the days that rest, each with the first wing in which it does; returns how many
+/// days it has.
+fn dates(year: u64, new_year: u64, length: u64, rest: &mut Vec<(u64, u64)>) -> u64 {
     let mut day = new_year;
     for (month, days) in months(year, length) {
         let got = unsafe { bd_month_length(year, month) };
@@ -145,9 +169,7 @@ fn dates(year: u64, new_year: u64, length: u64, rest: &mut Vec<u64>) -> u64 {
             assert_eq!(got, (0, year, month, date, new_year, length, day - new_year + 1), "day {day}");
             let got = unsafe { bd_hebrew_to_day(year, month, date) };
             assert_eq!((got.refusal, got.number), (0, day), "{year} {month} {date}");
-            if weekday(day) == 7 || REST_TABLE.contains(&(month, date)) {
-                rest.push(day);
-            }
+            rest.extend(rests_from(day, month, date).map(|wing| (day, wing)));
             day += 1;
         }
     }
@@ -155,28 +177,42 @@ fn dates(year: u64, new_year: u64, length: u64, rest: &mut Vec<u64>) -> u64 {
     length
 }
 
-/// A year's stretches as a list and day by day. The days of `rest` are those of this year, rising.
-fn stretches(year: u64, new_year: u64, rest: &[u64]) {
+/// A year's stretches in a wing, as a list and day by day. The days of `rest` are those of this year, rising.
+fn stretches(wing: u64, year: u64, new_year: u64, rest: &[(u64, u64)]) {
     let mut runs: Vec<(u64, u64)> = Vec::new();
-    for &day in rest {
+    for &(day, _) in rest.iter().filter(|&&(_, from)| from <= wing) {
         match runs.last_mut() {
             Some((first, length)) if *first + *length == day => *length += 1,
             _ => runs.push((day, 1)),
         }
     }
     let mut out = [u64::MAX; 130];
-    let got = unsafe { bd_stretches(year, out.as_mut_ptr(), out.len()) };
-    assert_eq!((got.refusal, got.number), (0, runs.len() as u64), "stretches of {year}");
+    let got = unsafe { bd_stretches(wing, year, out.as_mut_ptr(), out.len()) };
+    assert_eq!((got.refusal, got.number), (0, runs.len() as u64), "stretches of {year}, wing {wing}");
     let list: Vec<u64> = runs.iter().flat_map(|&(first, length)| [first, length]).collect();
-    assert_eq!(out[..list.len()], list, "stretches of {year}");
-    assert!(out[list.len()..].iter().all(|&entry| entry == u64::MAX), "stretches of {year}: an entry beyond the list");
+    assert_eq!(out[..list.len()], list, "stretches of {year}, wing {wing}");
+    let beyond = &out[list.len()..];
+    assert!(beyond.iter().all(|&entry| entry == u64::MAX), "stretches of {year}, wing {wing}: an entry beyond the list");
     let mut day = new_year;
     for (first, length) in runs {
         while day < first + length {
-            let got = unsafe { bd_stretch(day) };
+            let got = unsafe { bd_stretch(wing, day) };
             let want = (0, first, length, first as i64 - day as i64);
-            assert_eq!((got.refusal, got.first, got.length, got.days_left), want, "stretch for {day}");
+            assert_eq!((got.refusal, got.first, got.length, got.days_left), want, "stretch for {day}, wing {wing}");
             day += 1;
+        }
+    }
+}
+
+/// A bad wing is refused before a good year or day, and before a bad one.
+fn bad_wings() {
+    for wing in [0, 3, 1 << 32 | 1, u64::MAX] {
+        for number in [0, 5762, 2_456_928, u64::MAX] {
+            let got = unsafe { bd_stretch(wing, number) };
+            let got = (got.refusal, got.first, got.length, got.days_left);
+            assert_eq!(got, (15, 0, 0, 0), "stretch for {number}, wing {wing}");
+            let got = unsafe { bd_stretches(wing, number, std::ptr::null_mut(), 0) };
+            assert_eq!((got.refusal, got.number), (15, 0), "stretches of {number}, wing {wing}");
         }
     }
 }
@@ -189,7 +225,10 @@ fn main() {
         let (new_year, next) = (pair[0].day, pair[1].day);
         let mut rest = Vec::new();
         days += dates(year, new_year, next - new_year, &mut rest);
-        stretches(year, new_year, &rest);
+        for wing in [1, 2] {
+            stretches(wing, year, new_year, &rest);
+        }
     }
-    println!("Rust calls: Hebrew dates, months and stretches: {days} days");
+    bad_wings();
+    println!("Rust calls: Hebrew dates, months and both wings' stretches: {days} days");
 }
