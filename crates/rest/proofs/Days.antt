@@ -3,11 +3,11 @@ use mathlib.Core.Path.{_≡_, refl, sym, _∙_, ap}
 use mathlib.Core.Bool.{true, false, or-true, false≢true}
 use mathlib.Core.List.{List, [], _∷_}
 use mathlib.Core.Logic.{by-cases}
-use Prim.Native.Nat.{ℕ, _/_, _%_, _≤_}
+use Prim.Native.Nat.{ℕ, _/_, _%_, _≤_, _<_}
 use native.Mathlib.Omega.{arith}
-use native.Mathlib.Decide.{ℕ-discrete}
-use borrow.Author.Tests.{eq-eqb, ne-eqb}
-use lib.Dec.{eqb, leb}
+use native.Mathlib.Decide.{ℕ-discrete, decLt}
+use borrow.Author.Tests.{eq-eqb, ne-eqb, ltb-true}
+use lib.Dec.{eqb, ltb, leb}
 use Rattle.laws.specs.Runs.{eachOf, elem}
 use Rattle.laws.proofs.Tests.{and-left, and-right, each-at}
 use Rattle.laws.proofs.Promises.{ranged, let-pass}
@@ -19,12 +19,12 @@ use Rattle.newyear.proofs.YearOf.{year-is, year-in-range}
 use Rattle.hebrew.specs.Months.{monthLength}
 use Rattle.hebrew.specs.Dates.{GoodHebrewDate, dayNumber, dateOf}
 use Rattle.hebrew.proofs.Placed.{month-short}
-use Rattle.hebrew.proofs.Dates.{adar-one, date-good, date-day, date-back, in-its-year}
+use Rattle.hebrew.proofs.Dates.{adar-one, date-good, date-day, date-back, in-its-year, dates-rise-by-month, dates-rise-by-day}
 use Rattle.rest.specs.Table.{row, rowDate, inTable, isRest, restDay, restDays}
-use Rattle.rest.specs.Check.{rowGood, passes}
-use Rattle.rest.specs.Promises.{RestDaysOf}
+use Rattle.rest.specs.Check.{rowsRise, rowGood, passes}
+use Rattle.rest.specs.Promises.{DaysRise, RestDaysOf}
 use Rattle.rest.proofs.Rows.{GoodRow, good-row, days-at, days-length}
-use Rattle.rest.proofs.RestOfYear.{rows-good}
+use Rattle.rest.proofs.RestOfYear.{rows-rise, rows-good}
 
 -- The date of a day is in the year that the day lies in.
 dated-in : (j h : ℕ) → InYear j h → dateOf j .year ≡ h
@@ -83,12 +83,31 @@ module _ (h : ℕ) (l : 1 ≤ h) (u : h ≤ lastYear) where
       (λ q. rw q (in-its-year (rowDate h r) (row-date r (good-row len r (and-left _ _ good)))))
       (λ q. of-the-year table (and-right (rowGood len r) _ good) j (rw (ne-eqb j _ q) at e))
 
+  -- The days of rows that rise, rise.
+  days-rise : (table : List ℕ) → rowsRise table ≡ true → eachOf table (rowGood len) ≡ true → DaysRise (restDays table h)
+  unfolding restDays eachOf rowsRise
+  days-rise [] up good = tt
+  days-rise (r ∷ []) up good = tt
+  days-rise (r ∷ s ∷ table) up good =
+      let p = ltb-true r s (and-left _ _ up) in
+      let later = and-right (rowGood len r) _ good in
+      let g = row-date r (good-row len r (and-left _ _ good)) in
+      let k = row-date s (good-row len s (and-left _ _ later)) in
+      let next : dayNumber (rowDate h r) < dayNumber (rowDate h s) =
+      by-cases (decLt (r / 100) (s / 100))
+      (λ q. dates-rise-by-month h _ _ _ _ g k q)
+      (λ q.
+      let m : r / 100 ≡ s / 100 = omega arith in
+      rw (← m) (dates-rise-by-day h (r / 100) (r % 100) (s % 100) g (omega arith))) in
+      (next, days-rise (s ∷ table) (and-right (ltb r s) _ up) later)
+
   pub rest-days-of : (table : List ℕ) → passes table ≡ true → RestDaysOf table h (restDays table h)
   unfolding restDay isRest
   rest-days-of table ok =
       let good = rows-good table ok h l u in
       record {
         as-many = days-length table h;
+        rising = days-rise table (rows-rise table ok) good;
         in-order = λ i p. rw (days-at table h i p) (date-back _ (row-date _ (good-row len _ (each-at table (rowGood len) good i p))));
         rests =
             λ j e.

@@ -11,10 +11,10 @@ use Rattle.hebrew.specs.Steps.{yearDate}
 use Rattle.rest.specs.Table.{restTable, guestTable}
 use Rattle.rest.specs.Wings.{tableOf}
 use Rattle.rest.specs.Steps.{restAt}
-use Rattle.rest.specs.Check.{rowGood, passesIn, passes}
+use Rattle.rest.specs.Check.{rowsRise, rowGood, passesIn, passes}
 
 pub tables-pass : (wing : ℕ) → passes (tableOf wing) ≡ true
-unfolding tableOf passes passesIn rowGood eachOf every restAt yearDate monthOf begun monthLength daysBefore
+unfolding tableOf passes rowsRise passesIn rowGood eachOf every restAt yearDate monthOf begun monthLength daysBefore
 tables-pass wing = go (eqb wing 1)
   where
     go : (first : Bool) → passes (cond first restTable guestTable) ≡ true

@@ -24,7 +24,7 @@ use Rattle.hebrew.specs.Steps.{yearDate}
 use Rattle.hebrew.proofs.Placed.{month-is}
 use Rattle.rest.specs.Table.{row, isRest, restDay}
 use Rattle.rest.specs.Steps.{restAt}
-use Rattle.rest.specs.Check.{rowGood, four, passesIn, passes}
+use Rattle.rest.specs.Check.{rowsRise, rowGood, four, passesIn, passes}
 
 -- A day is a Saturday by its own number, or by that of a New Year before it.
 saturdays : ℕ → Bool
@@ -76,6 +76,10 @@ module _ (table : List ℕ) where
       rw (tishri len x u, tishri other x u, s)
 
 module _ (table : List ℕ) (ok : passes table ≡ true) where
+  pub rows-rise : rowsRise table ≡ true
+  unfolding passes
+  rows-rise = and-left _ _ ok
+
   -- What the check says of the kind of year h.
   module _ (h : ℕ) (l : 1 ≤ h) (u : h ≤ lastYear) where
     abbrev w : ℕ
@@ -93,7 +97,8 @@ module _ (table : List ℕ) (ok : passes table ≡ true) where
         let k = length-in h l (omega arith) in
         let a : (1000 * w + len) / 1000 ≡ w = omega arith in
         let b : (1000 * w + len) % 1000 ≡ len = omega arith in
-        rw (a, b) at (of kinds (λ k. passesIn table (k % 1000) (restAt table (k / 1000) (k % 1000))) ok (kindOf h) (kind-in h l (omega arith)))
+        let each = and-right (rowsRise table) _ ok in
+        rw (a, b) at (of kinds (λ k. passesIn table (k % 1000) (restAt table (k / 1000) (k % 1000))) each (kindOf h) (kind-in h l (omega arith)))
 
     pub rows-good : eachOf table (rowGood len) ≡ true
     unfolding passesIn

@@ -1,14 +1,21 @@
--- The check that a table of rest days must pass. In a year of each of the fourteen kinds: each row is a date of the year;
--- 1 Tishri is a row; the last day is no rest day; and no four neighbouring days are all rest days. What the rest days of
--- such a table have in common is shown for any table that passes.
-use mathlib.Core.Bool.{Bool, _&&_, not}
-use mathlib.Core.List.{List}
+-- The check that a table of rest days must pass. Its rows rise; and in a year of each of the fourteen kinds each row is a
+-- date of the year, 1 Tishri is a row, the last day is no rest day, and no four neighbouring days are all rest days. What
+-- the rest days of such a table have in common is shown for any table that passes.
+use mathlib.Core.Bool.{Bool, true, _&&_, not}
+use mathlib.Core.List.{List, [], _∷_}
 use Prim.Native.Nat.{ℕ, _+_, _-_, _/_, _%_}
+use lib.Dec.{ltb}
 use Rattle.laws.specs.Runs.{every, eachOf, elem, outside}
 use Rattle.newyear.specs.Kinds.{kinds}
 use Rattle.hebrew.specs.Months.{monthLength}
 use Rattle.rest.specs.Table.{row}
 use Rattle.rest.specs.Steps.{restAt}
+
+-- Each row comes after the one before it, by month code and day.
+unfoldable pub rowsRise : List ℕ → Bool
+rowsRise [] = true
+rowsRise (r ∷ []) = true
+rowsRise (r ∷ s ∷ table) = ltb r s && rowsRise (s ∷ table)
 
 -- The row is a date of a year of this length.
 unfoldable pub rowGood : ℕ → ℕ → Bool
@@ -24,4 +31,4 @@ passesIn table len rest =
 
 -- A kind is 1,000 × weekday of New Year + length.
 unfoldable pub passes : List ℕ → Bool
-passes table = eachOf kinds (λ k. passesIn table (k % 1000) (restAt table (k / 1000) (k % 1000)))
+passes table = rowsRise table && eachOf kinds (λ k. passesIn table (k % 1000) (restAt table (k / 1000) (k % 1000)))

@@ -11,9 +11,16 @@ use Rattle.hebrew.specs.Dates.{dateOf}
 use Rattle.newyear.specs.NewYear.{InYear}
 use Rattle.rest.specs.Table.{rowDate, inTable, restDay}
 
+-- Each day comes after the one before it.
+abbrev pub DaysRise : List ℕ → Type 0
+DaysRise [] = Unit {0}
+DaysRise (j ∷ []) = Unit {0}
+DaysRise (j ∷ k ∷ list) = (j < k) × DaysRise (k ∷ list)
+
 pub record RestDaysOf (table : List ℕ) (h : ℕ) (list : List ℕ) : Type 0 where
-  -- In the table's order.
+  -- In the table's order, and rising.
   pub as-many : length list ≡ length table
+  pub rising : DaysRise list
   pub in-order : (i : ℕ) → i < length table → dateOf (getD list i 0) ≡ rowDate h (getD table i 0)
   -- Each day of the list is a rest day of the year.
   pub rests : (j : ℕ) → elem j list ≡ true → InYear j h × (restDay table j ≡ true)
