@@ -1,9 +1,10 @@
--- Either table's rows are dates of the year, since both pass the check.
+-- The rows of either table are dates of the year, since both pass the check.
 use borrow.Author.Needs.{needs}
 use mathlib.Core.Path.{_≡_}
 use mathlib.Core.Bool.{true}
-use Prim.Native.Nat.{ℕ}
-use borrow.Author.Tests.{eq-eqb, ne-eqb}
+use mathlib.Core.List.{List}
+use Prim.Native.Nat.{ℕ, _≤_}
+use lib.ListN.{length}
 use Rattle.laws.specs.Runs.{eachOf}
 use Rattle.newyear.specs.Spans.{Spans}
 use Rattle.newyear.specs.declared.span.Span.{Span}
@@ -11,45 +12,29 @@ use Rattle.rest.specs.Wings.{tableOf}
 use Rattle.rest.specs.Check.{rowGood}
 use Rattle.rest.proofs.Passed.{tables-pass}
 use Rattle.rest.proofs.RestOfYear.{rows-good}
+use Rattle.rest.proofs.Wings.{first-table, guest-table}
 use Rattle.rest.proofs.write_wing.Statement.{statement}
 use Rattle.rest.proofs.write_wing.Tie as tie
 
-dated : (wing : ℕ) (span : Span) → Spans (span .year) span → eachOf (tableOf wing) (rowGood (span .length)) ≡ true
-dated wing span e = rw (e .days) (rows-good (tableOf wing) (tables-pass wing) (span .year) (e .first) (e .last))
-
-write-days-requires : tie.Need-write-days-requires
-unfolding tableOf
-write-days-requires c κs =
-    let t = c .before .before in
-    let s = t .before .before in
-    let one = eq-eqb _ _ (t .if1 .taken) in
-    (s .pre .0, (rw one at (dated (s .args .wing) (s .args .span) (s .pre .0)), rw one at (s .pre .1)))
-
-write-days-requires-2 : tie.Need-write-days-requires-2
-unfolding tableOf
-write-days-requires-2 c κs =
-    let t = c .before .before in
-    let s = t .before .before in
-    let none = ne-eqb _ _ (t .if1 .left) in
-    (s .pre .0, (rw none at (dated (s .args .wing) (s .args .span) (s .pre .0)), rw none at (s .pre .1)))
-
-returns : tie.Need-returns
-unfolding tableOf
-returns c = let w = c .before .before in rw (eq-eqb _ _ (w .before .before .before .if1 .taken)) (w .write-days .ensures)
-
-returns-2 : tie.Need-returns-2
-unfolding tableOf
-returns-2 c = let w = c .before .before in rw (ne-eqb _ _ (w .before .before .before .if1 .left)) (w .write-days2 .ensures)
+-- What is asked to write the wing's table.
+asked :
+    (wing room : ℕ) (span : Span) (table : List ℕ) → tableOf wing ≡ table → Spans (span .year) span × (length (tableOf wing) ≤ room) →
+    Spans (span .year) span × ((eachOf table (rowGood (span .length)) ≡ true) × (length table ≤ room))
+asked wing room span table e p =
+    let s = p .0 in (
+      s,
+      (rw (← e, s .days) (rows-good (tableOf wing) (tables-pass wing) (span .year) (s .first) (s .last)), rw e at (p .1)),
+    )
 
 pub write-wing-spec : {M : Type 1} → statement M
 write-wing-spec =
     tie.close
     (tie.spec
     (search needs)
-    write-days-requires
+    (λ c κs. let t = c .before .before in asked _ _ _ _ (first-table _ (t .if1 .taken)) (t .before .before .pre))
     (search needs)
-    write-days-requires-2
+    (λ c κs. let t = c .before .before in asked _ _ _ _ (guest-table _ (t .if1 .left)) (t .before .before .pre))
     (search needs)
-    returns
+    (λ c. let w = c .before .before in rw (first-table _ (w .before .before .before .if1 .taken)) (w .write-days .ensures))
     (search needs)
-    returns-2)
+    (λ c. let w = c .before .before in rw (guest-table _ (w .before .before .before .if1 .left)) (w .write-days2 .ensures)))

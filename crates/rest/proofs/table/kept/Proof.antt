@@ -2,12 +2,12 @@ use borrow.Author.Needs.{needs}
 use mathlib.Core.Path.{_≡_, refl, sym, _∙_}
 use mathlib.Core.Bool.{Bool, true, false, cond}
 use Prim.Native.Nat.{ℕ}
-use borrow.Author.Tests.{eq-eqb, ne-eqb}
 use lib.Dec.{eqb}
 use Rattle.laws.specs.Runs.{eachOf, elem}
 use Rattle.laws.proofs.Tests.{of}
 use Rattle.rest.specs.Table.{restTable, guestTable}
 use Rattle.rest.specs.Wings.{tableOf}
+use Rattle.rest.proofs.Wings.{first-table, guest-table}
 use Rattle.rest.proofs.table.kept.Statement.{statement}
 use Rattle.rest.proofs.table.kept.Tie as tie
 
@@ -24,14 +24,10 @@ returns : tie.Need-returns
 returns c = let a = c .before in sym (both _ _ (sym (a .among .ensures) ∙ c .if1 .taken))
 
 returns-2 : tie.Need-returns-2
-unfolding tableOf
-returns-2 c =
-    let t = c .before in
-    rw (eq-eqb _ _ (c .if2 .taken)) (sym (sym (t .before .among .ensures) ∙ t .if1 .left))
+returns-2 c = let t = c .before in rw (first-table _ (c .if2 .taken)) (sym (sym (t .before .among .ensures) ∙ t .if1 .left))
 
 returns-3 : tie.Need-returns-3
-unfolding tableOf
-returns-3 c = rw (ne-eqb _ _ (c .before .before .if2 .left)) (c .among2 .ensures)
+returns-3 c = rw (guest-table _ (c .before .before .if2 .left)) (c .among2 .ensures)
 
 pub kept-spec : {M : Type 1} → statement M
 kept-spec =
