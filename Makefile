@@ -21,7 +21,7 @@ year:
 
 # Without a WING, wing 1; without a DATE, today. CC names another compiler, for x86-64 Linux.
 panel:
-	@examples/run panel "$${WING:-1}" "$${DATE-today}" "$${TIME-}" "$${SUNSET-}"
+	@examples/run panel "$${WING-1}" "$${DATE-today}" "$${TIME-}" "$${SUNSET-}"
 
 test:
 	bash .ci/run

@@ -187,8 +187,7 @@ void rest_days(void)
     every_length(&REST_DAYS, BD_GUEST_WING, 5775, 13, GUEST_REST_5775, COUNT(GUEST_REST_5775));
     every_length(&STRETCHES, BD_WING_1, 5762, 56, STRETCHES_5762, COUNT(STRETCHES_5762));
     every_length(&STRETCHES, BD_GUEST_WING, 5775, 51, GUEST_STRETCHES_5775, COUNT(GUEST_STRETCHES_5775));
-    bad_years(BD_WING_1, BD_BAD_YEAR);
-    bad_years(BD_GUEST_WING, BD_BAD_YEAR);
+    for (uint64_t wing = BD_WING_1; wing <= BD_GUEST_WING; ++wing) bad_years(wing, BD_BAD_YEAR);
     for (size_t i = 0; i < COUNT(BAD_WINGS); ++i) bad_wing(BAD_WINGS[i]);
     asked_for();
     end();

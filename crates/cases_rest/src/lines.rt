@@ -1,14 +1,13 @@
-// How each answer is printed: all of its numbers, the refusal first; and what a lent buffer holds afterwards. The wing
-// stands above, in a line of its own.
+// How each answer is printed: all of its numbers, the refusal first; and what a lent buffer holds afterwards.
 ghost use Prim.Native.Nat.{_≤_};
 use show::end;
 use show::number;
 use show::signed;
 use show::text;
 
-pub fn wing(number: u64) {
+pub fn wing(wing: u64) {
     text(b"wing");
-    show::number(number);
+    number(wing);
     end();
 }
 
@@ -85,7 +84,7 @@ fn ask(of_stretches: bool, wing: u64, year: u64, out: &mut [u64]) -> rest::ListA
 }
 
 // The year, how many entries are lent, and the answer.
-fn list(of_stretches: bool, wing: u64, year: u64, room: usize)
+pub fn list(of_stretches: bool, wing: u64, year: u64, room: usize)
     requires { ⌜ room ≤ 140 ⌝ }
 {
     let mut buffer = [0u64; 140];

@@ -45,7 +45,7 @@ pub record Promised {A : Type 0} (number : A → ℕ) (asked : List Asked) (Valu
 abbrev pub Smallest : {A : Type 0} {number : A → ℕ} {asked : List Asked} {Values : A → Type 0} {Besides : ℕ → A → Type 0} {r : A} → Promised number asked Values Besides r → Type 0
 Smallest {number} {asked} {r} p = (k : ℕ) → Unmet asked k → number r ≤ k
 
--- So of all but the first, where that is met.
+-- The same of all that is asked after the first, where the first is met.
 abbrev pub SmallestAfter :
     {A : Type 0} {number : A → ℕ} {a : Asked} {asked : List Asked} {Values : A → Type 0} {Besides : ℕ → A → Type 0} {r : A} →
     Promised number (a ∷ asked) Values Besides r → Type 0

@@ -1,8 +1,8 @@
 // What the year program prints for one input.
 //
 // The first line has the year, the weekday of its New Year, its length and months, the day, hour and part of Tishri's
-// molad, and the delay of New Year with its cause. A line for each rest day of wing 1 follows, in the table's order: month
-// code, day, weekday, day number and Gregorian date. What is refused prints only its number.
+// molad, and the delay of New Year with its cause. A line for each rest day of wing 1 follows, rising: month code, day,
+// weekday, day number and Gregorian date. What is refused prints only its number.
 use show::end;
 use show::number;
 use show::plain;

@@ -65,7 +65,7 @@ rest-days-promised wing h buffer =
     (wing-promised wing (noList 15) (λ table. restDaysAnswer table h buffer) refl refl
     (list-promised h buffer (restDays (tableOf wing) h) (length (restDays (tableOf wing) h))))
 
--- Of a wing that is 1 or 2.
+-- Where the wing is 1 or 2 the smallest refusal is given.
 pub rest-days-smallest : (wing h : ℕ) (buffer : List ℕ) → SmallestAfter (rest-days-promised wing h buffer)
 rest-days-smallest wing h buffer = smallest-after (rest-days-promised wing h buffer) (omega arith, (omega arith, tt))
 
@@ -86,7 +86,7 @@ rest-days-given wing h buffer z =
     let met = rest-days-promised wing h buffer .done .0 z in
     let e = list-written (restDays (tableOf wing) h) buffer _ _ (restCount wing) (rest-days-lent wing h buffer) z (rest-count wing h) in (
       rw e (rest-days-of h (met .1 .0 .0) (met .1 .0 .1) (tableOf wing) (tables-pass wing)),
-      record { first = λ w. rw (e, w); guest = λ w. rw (e, w) },
+      record { one = λ w. rw (e, w); guest = λ w. rw (e, w) },
     )
 
 -- One answer, and one state of the buffer.

@@ -3,4 +3,5 @@ pub mod Days
 pub mod Passed
 pub mod RestOfYear
 pub mod Rows
+pub mod Tables
 pub mod Wings

@@ -1,12 +1,11 @@
 -- What is shown of an answer by a table holds of the wing that keeps it; the wing is asked first.
 use mathlib.Core.Path.{_≡_, refl}
 use mathlib.Core.Bool.{Bool, true, false, cond, false≢true}
-use mathlib.Core.List.{List, [], _∷_}
+use mathlib.Core.List.{List, _∷_}
 use mathlib.Core.Logic.{inl, inr, ⊎-elim, by-cases}
 use Prim.Native.Nat.{ℕ}
 use native.Mathlib.Omega.{arith}
 use native.Mathlib.Decide.{ℕ-discrete}
-use borrow.Author.Tests.{eq-eqb, ne-eqb}
 use lib.Dec.{eqb}
 use lib.ListN.{length}
 use Rattle.laws.specs.Promise.{Asked, _else_, Promised}
@@ -18,15 +17,6 @@ use Rattle.rest.specs.Wings.{IsWing, outOfWings, tableOf, ofWing}
 use Rattle.rest.specs.Answers.{noList}
 use Rattle.rest.specs.Promises.{restCount}
 use Rattle.rest.specs.declared.ListAnswer.{ListAnswer}
-
--- Each wing's table.
-pub first-table : (wing : ℕ) → wing ≡ 1 → tableOf wing ≡ restTable
-unfolding tableOf
-first-table wing e = rw (eq-eqb wing 1 e)
-
-pub guest-table : (wing : ℕ) → ¬ (wing ≡ 1) → tableOf wing ≡ guestTable
-unfolding tableOf
-guest-table wing e = rw (ne-eqb wing 1 e)
 
 -- A wing that is neither 1 nor 2 is caught.
 wings : (wing : ℕ) → Catches (outOfWings wing) (IsWing wing)

@@ -32,9 +32,9 @@ pub record RestDaysOf (table : List ℕ) (h : ℕ) (list : List ℕ) : Type 0 wh
 abbrev pub restCount : ℕ → ℕ
 restCount wing = cond (eqb wing 1) 8 13
 
--- They are these, where `on` tells the day of a month code and a day.
+-- They are these dates; `on` tells the day number of a month code and a day of the month.
 pub record KeptBy (wing : ℕ) (on : ℕ → ℕ → ℕ) (list : List ℕ) : Type 0 where
-  pub first : wing ≡ 1 → list ≡ on 1 1 ∷ on 1 2 ∷ on 1 10 ∷ on 1 15 ∷ on 1 22 ∷ on 8 15 ∷ on 8 21 ∷ on 10 6 ∷ []
+  pub one : wing ≡ 1 → list ≡ on 1 1 ∷ on 1 2 ∷ on 1 10 ∷ on 1 15 ∷ on 1 22 ∷ on 8 15 ∷ on 8 21 ∷ on 10 6 ∷ []
   pub guest :
       wing ≡ 2 →
       list

@@ -8,7 +8,7 @@ use Rattle.days.specs.Range.{outOfRange}
 use Rattle.days.specs.Weekday.{weekday}
 use Rattle.hebrew.specs.Dates.{Date, dayNumber, dateOf}
 
--- A row of the table is a month code and a day, written as one number: 10_06 is 6 Sivan. No month has a hundred days, so
+-- A row of a table is a month code and a day, written as one number: 10_06 is 6 Sivan. No month has a hundred days, so
 -- that a row is one date, and its month and day are the row's quotient and remainder by 100.
 abbrev pub row : ℕ → ℕ → ℕ
 row month day = 100 * month + day
@@ -20,7 +20,8 @@ rowDate h r = record { year = h; month = r / 100; day = r % 100 }
 abbrev pub restTable : List ℕ
 restTable = row 1 1 ∷ row 1 2 ∷ row 1 10 ∷ row 1 15 ∷ row 1 22 ∷ row 8 15 ∷ row 8 21 ∷ row 10 6 ∷ []
 
--- Wing 2, the guest wing, keeps second days too: Tishri 16 and 23, Nisan 16 and 22, Sivan 7. Its thirteen rise with the year.
+-- Wing 2, the guest wing, keeps second days too, by document 02: Tishri 16 and 23, Nisan 16 and 22, Sivan 7. The
+-- thirteen rise with the year.
 abbrev pub guestTable : List ℕ
 guestTable =
     row 1 1 ∷ row 1 2 ∷ row 1 10 ∷ row 1 15 ∷ row 1 16 ∷ row 1 22 ∷ row 1 23

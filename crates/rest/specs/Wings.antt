@@ -14,6 +14,7 @@ IsWing wing = (wing ≡ 1) ⊎ (wing ≡ 2)
 abbrev pub outOfWings : ℕ → Bool
 outOfWings wing = outside 1 2 wing
 
+-- A wing's table. It is asked of a wing alone; any other number has the guest wing's.
 unfoldable pub tableOf : ℕ → List ℕ
 tableOf wing = cond (eqb wing 1) restTable guestTable
 

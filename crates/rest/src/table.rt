@@ -7,7 +7,7 @@ ghost use Rattle.laws.specs.Runs.{elem};
 ghost use Rattle.rest.specs.Wings.{outOfWings, tableOf};
 ghost use Rattle.rest.specs.Steps.{restOn};
 
-// How many rows each table has.
+// How many rows each table has, wing 1's and the guest wing's.
 pub const REST_ROWS: usize = 8;
 
 pub const GUEST_ROWS: usize = 13;
@@ -39,7 +39,7 @@ pub fn out_of_wings(wing: u64) -> bool
     (wing < 1) | (2 < wing)
 }
 
-// How many rows the wing's table has.
+// How many rows the wing's table has; the caller has seen that it is a wing.
 pub fn rows(wing: u64) -> usize
     ensures { λ r. ⌜ r ≡ ListN·length (tableOf wing) ⌝ }
 {
@@ -60,7 +60,8 @@ fn among(table: &[u64], row: u64) -> bool
     false
 }
 
-// Is there such a row in the wing's table? What wing 1 keeps the guest wing keeps too, so that its table comes first.
+// Is there such a row in the wing's table? Wing 1's is searched first for either wing: what wing 1 keeps the guest wing
+// keeps too.
 fn kept(wing: u64, row: u64) -> bool
     ensures { λ r. ⌜ r ≡ elem row (tableOf wing) ⌝ }
 {

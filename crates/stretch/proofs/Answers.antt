@@ -115,7 +115,7 @@ module _ (wing : ℕ) where
       rw (list-written (stretchRows (tableOf wing) h) buffer _ _ _ (stretches-lent h buffer) z (sym (t .values met)))
       (stretches-of (tableOf wing) (tables-pass wing) h (met .1 .0 .0) (met .1 .0 .1))
 
-  -- Of a wing that is 1 or 2.
+  -- Where the wing is 1 or 2 the smallest refusal is given.
   pub stretch-smallest : (j : ℕ) → SmallestAfter (stretch-promised j)
   stretch-smallest j = smallest-after (stretch-promised j) (omega arith, (omega arith, tt))
 

@@ -25,7 +25,7 @@ pub record StretchAhead (table : List ℕ) (j : ℕ) : Type 0 where
   pub a-stretch : Run (restDay table) first days
   pub not-over : j < first + days
 
--- What the stretches of either wing have in common, and of any table that passes the check: a stretch has one to three
+-- What the stretches of either wing, and of any table that passes the check, have in common: a stretch has one to three
 -- days and crosses no New Year; there is one ahead of every day but the last four; days left are -2 to 6.
 pub record Shared (table : List ℕ) : Type 0 where
   pub at-most-three : (f c : ℕ) → Run (restDay table) f c → (1 ≤ c) × (c ≤ 3)

@@ -3,9 +3,11 @@ use mathlib.Core.Path.{_≡_, subst, sym, _∙_}
 use mathlib.Core.Bool.{false}
 use Prim.Native.Nat.{ℕ}
 use borrow.Author.Tests.{lt-ltb, le-ltb}
+use lib.ListN.{length}
 use Rattle.laws.proofs.Tests.{within}
-use Rattle.molad.specs.Years.{lastYear}
+use Rattle.molad.specs.Years.{lastYear, outOfYears}
 use Rattle.newyear.specs.Spans.{Spans}
+use Rattle.rest.specs.Table.{restDays}
 use Rattle.rest.specs.Wings.{outOfWings, tableOf}
 use Rattle.rest.specs.Answers.{listAnswer, listBuffer}
 use Rattle.rest.proofs.Rows.{days-length}
@@ -29,16 +31,19 @@ returns-2 c =
     let o = named (t .before) in
     (rw (o, t .if2 .taken) (c .no-list2 .ensures), rw (o, t .if2 .taken))
 
+-- Wing and year are good, and so many entries are wanted.
+good :
+    (c : tie.After-rows) →
+    let a = c .before .before .before .before .before .args in
+    (outOfWings (a .wing) ≡ false) × ((outOfYears (a .year) ≡ false) × (length (restDays (tableOf (a .wing)) (a .year)) ≡ c .rows .result))
+good c = let y = c .before in (named (y .before), (y .if2 .left, days-length _ _ ∙ sym (c .rows .ensures)))
+
 returns-3 : tie.Need-returns-3
 unfolding listAnswer listBuffer
 returns-3 c =
-    let w = c .before in
-    let y = w .before in
-    let o = named (y .before) in
-    let a = y .before .before .before .before .args in
-    let n = days-length (tableOf (a .wing)) (a .year) in
+    let g = good (c .before) in
     let t = lt-ltb _ _ (c .if3 .taken) in
-    (rw (o, y .if2 .left, n, ← w .rows .ensures, t), rw (o, y .if2 .left, n, ← w .rows .ensures, t))
+    (rw (g .0, g .1 .0, g .1 .1, t), rw (g .0, g .1 .0, g .1 .1, t))
 
 write-wing-requires : tie.Need-write-wing-requires
 write-wing-requires c κs =
@@ -53,14 +58,10 @@ returns-4 c =
     let d = c .before .before in
     let s = d .before .before in
     let t = s .before in
-    let w = t .before in
-    let y = w .before in
-    let o = named (y .before) in
-    let a = y .before .before .before .before .args in
-    let n = days-length (tableOf (a .wing)) (a .year) in
+    let g = good (t .before) in
     let l = le-ltb _ _ (t .if3 .left) in (
-      rw (o, y .if2 .left, n, ← w .rows .ensures, l),
-      rw (o, y .if2 .left, n, ← w .rows .ensures, l) (rw (s .year-span .ensures .year) at (d .write-wing .ensures)),
+      rw (g .0, g .1 .0, g .1 .1, l),
+      rw (g .0, g .1 .0, g .1 .1, l) (rw (s .year-span .ensures .year) at (d .write-wing .ensures)),
     )
 
 pub rest-days-spec : {M : Type 1} → statement M

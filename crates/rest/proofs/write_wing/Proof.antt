@@ -12,7 +12,7 @@ use Rattle.rest.specs.Wings.{tableOf}
 use Rattle.rest.specs.Check.{rowGood}
 use Rattle.rest.proofs.Passed.{tables-pass}
 use Rattle.rest.proofs.RestOfYear.{rows-good}
-use Rattle.rest.proofs.Wings.{first-table, guest-table}
+use Rattle.rest.proofs.Tables.{first-table, guest-table}
 use Rattle.rest.proofs.write_wing.Statement.{statement}
 use Rattle.rest.proofs.write_wing.Tie as tie
 

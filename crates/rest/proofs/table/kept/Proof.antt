@@ -1,24 +1,19 @@
 use borrow.Author.Needs.{needs}
 use mathlib.Core.Path.{_≡_, refl, sym, _∙_}
-use mathlib.Core.Bool.{Bool, true, false, cond}
+use mathlib.Core.Bool.{true}
 use Prim.Native.Nat.{ℕ}
-use lib.Dec.{eqb}
 use Rattle.laws.specs.Runs.{eachOf, elem}
 use Rattle.laws.proofs.Tests.{of}
 use Rattle.rest.specs.Table.{restTable, guestTable}
 use Rattle.rest.specs.Wings.{tableOf}
-use Rattle.rest.proofs.Wings.{first-table, guest-table}
+use Rattle.rest.proofs.Tables.{first-table, guest-table, of-both}
 use Rattle.rest.proofs.table.kept.Statement.{statement}
 use Rattle.rest.proofs.table.kept.Tie as tie
 
 -- What stands in wing 1's table stands in the guest wing's.
 both : (wing row : ℕ) → elem row restTable ≡ true → elem row (tableOf wing) ≡ true
-unfolding tableOf eachOf
-both wing row e = go (eqb wing 1)
-  where
-    go : (first : Bool) → elem row (cond first restTable guestTable) ≡ true
-    go true = e
-    go false = of restTable (λ r. elem r guestTable) refl row e
+unfolding eachOf
+both wing row e = of-both (λ table. elem row table ≡ true) e (of restTable (λ r. elem r guestTable) refl row e) wing
 
 returns : tie.Need-returns
 returns c = let a = c .before in sym (both _ _ (sym (a .among .ensures) ∙ c .if1 .taken))

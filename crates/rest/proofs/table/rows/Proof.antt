@@ -1,4 +1,4 @@
-use Rattle.rest.proofs.Wings.{first-table, guest-table}
+use Rattle.rest.proofs.Tables.{first-table, guest-table}
 use Rattle.rest.proofs.table.rows.Statement.{statement}
 use Rattle.rest.proofs.table.rows.Tie as tie
 
