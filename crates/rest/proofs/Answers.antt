@@ -20,7 +20,7 @@ use Rattle.rest.specs.Table.{restDays}
 use Rattle.rest.specs.Wings.{IsWing, outOfWings, tableOf}
 use Rattle.rest.specs.Steps.{restOn}
 use Rattle.rest.specs.Promises.{RestDaysOf, restCount, KeptBy}
-use Rattle.rest.specs.Answers.{noList, listAnswer, listBuffer, restDaysAnswer, restDaysBuffer, wingRestDays, wingRestDaysBuffer}
+use Rattle.rest.specs.Answers.{noList, listRefusal, listAnswer, listBuffer, restDaysAnswer, restDaysBuffer, wingRestDays, wingRestDaysBuffer}
 use Rattle.rest.specs.declared.ListAnswer.{ListAnswer}
 use Rattle.hebrew.specs.declared.date.YearDate.{YearDate}
 use Rattle.rest.proofs.Passed.{tables-pass}
@@ -101,6 +101,9 @@ rest-on-one table w date = one-result (restOn table w date)
 
 pub out-of-wings-one : (wing : ℕ) (r s : Bool) → r ≡ outOfWings wing → s ≡ outOfWings wing → r ≡ s
 out-of-wings-one wing = one-result (outOfWings wing)
+
+pub list-refusal-one : (wing h r s : ℕ) → r ≡ listRefusal wing h → s ≡ listRefusal wing h → r ≡ s
+list-refusal-one wing h = one-result (listRefusal wing h)
 
 pub no-list-one : (n : ℕ) (r s : ListAnswer) → r ≡ noList n → s ≡ noList n → r ≡ s
 no-list-one n = one-result (noList n)

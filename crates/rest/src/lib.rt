@@ -15,7 +15,7 @@ ghost use Rattle.newyear.specs.Spans.{Spans};
 ghost use Rattle.rest.specs.Table.{restDays};
 ghost use Rattle.rest.specs.Wings.{tableOf};
 ghost use Rattle.rest.specs.Check.{rowGood};
-ghost use Rattle.rest.specs.Answers.{noList, wingRestDays, wingRestDaysBuffer};
+ghost use Rattle.rest.specs.Answers.{noList, listRefusal, wingRestDays, wingRestDaysBuffer};
 use table::GUEST_TABLE;
 pub use table::REST_ROWS;
 use table::REST_TABLE;
@@ -27,6 +27,20 @@ use table::rows;
 pub struct ListAnswer {
     pub refusal: u64,
     pub count: u64,
+}
+
+// A step: what refuses a list of the year before its buffer is looked at. 15 for a wing that is neither 1 nor 2; 1 for a
+// year outside 1..9999; else 0.
+pub fn list_refusal(wing: u64, year: u64) -> u64
+    ensures { λ r. ⌜ r ≡ listRefusal wing year ⌝ }
+{
+    if out_of_wings(wing) {
+        return 15;
+    }
+    if (year < 1) | (molad::LAST_YEAR < year) {
+        return 1;
+    }
+    0
 }
 
 // A step: the answer of a list that is refused with this number, and not for want of room.
@@ -71,11 +85,9 @@ fn write_wing(wing: u64, span: newyear::Span, out: &mut [u64])
 pub fn rest_days(wing: u64, year: u64, out: &mut [u64]) -> ListAnswer
     ensures { λ r. ⌜ (r ≡ wingRestDays wing year (now (out .entry))) × (now (out .exit) ≡ wingRestDaysBuffer wing year (now (out .entry))) ⌝ }
 {
-    if out_of_wings(wing) {
-        return no_list(15);
-    }
-    if (year < 1) | (molad::LAST_YEAR < year) {
-        return no_list(1);
+    let refusal = list_refusal(wing, year);
+    if refusal != 0 {
+        return no_list(refusal);
     }
     let wanted = rows(wing);
     if out.len() < wanted {

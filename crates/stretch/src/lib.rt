@@ -73,11 +73,9 @@ const MOST_DAYS: usize = 385;
 pub fn stretches(wing: u64, year: u64, out: &mut [u64]) -> rest::ListAnswer
     ensures { λ r. ⌜ (r ≡ wingStretches wing year (now (out .entry))) × (now (out .exit) ≡ wingStretchesBuffer wing year (now (out .entry))) ⌝ }
 {
-    if rest::out_of_wings(wing) {
-        return rest::no_list(15);
-    }
-    if (year < 1) | (molad::LAST_YEAR < year) {
-        return rest::no_list(1);
+    let refusal = rest::list_refusal(wing, year);
+    if refusal != 0 {
+        return rest::no_list(refusal);
     }
     let span = newyear::year_span(year);
     let weekday = days::weekday_of(span.new_year);

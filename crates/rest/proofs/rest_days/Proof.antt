@@ -9,40 +9,36 @@ use Rattle.molad.specs.Years.{lastYear, outOfYears}
 use Rattle.newyear.specs.Spans.{Spans}
 use Rattle.rest.specs.Table.{restDays}
 use Rattle.rest.specs.Wings.{outOfWings, tableOf}
-use Rattle.rest.specs.Answers.{listAnswer, listBuffer}
+use Rattle.rest.specs.Answers.{noList, listRefusal, listAnswer, listBuffer}
+use Rattle.rest.proofs.Refused.{refuses, keeps, lets-pass}
 use Rattle.rest.proofs.Rows.{days-length}
 use Rattle.rest.proofs.rest_days.Statement.{statement}
 use Rattle.rest.proofs.rest_days.Tie as tie
 
 returns : tie.Need-returns
+unfolding listRefusal listAnswer listBuffer
 returns c =
     let t = c .before in
-    let e = sym (t .before .out-of-wings .ensures) ∙ t .if1 .taken in
-    (rw e (c .no-list .ensures), rw e)
-
--- The wing is 1 or 2.
-named : (c : tie.Else1) → outOfWings (c .before .before .before .args .wing) ≡ false
-named c = sym (c .before .out-of-wings .ensures) ∙ c .if1 .left
-
-returns-2 : tie.Need-returns-2
-unfolding listAnswer listBuffer
-returns-2 c =
-    let t = c .before in
-    let o = named (t .before) in
-    (rw (o, t .if2 .taken) (c .no-list2 .ensures), rw (o, t .if2 .taken))
+    let e = t .before .list-refusal .ensures in
+    let n = rw e at (t .if1 .taken) in
+    (c .no-list .ensures ∙ rw e (refuses _ _ noList _ n), keeps _ _ _ _ n)
 
 -- Wing and year are good, and so many entries are wanted.
 good :
     (c : tie.After-rows) →
-    let a = c .before .before .before .before .before .args in
+    let a = c .before .before .before .before .args in
     (outOfWings (a .wing) ≡ false) × ((outOfYears (a .year) ≡ false) × (length (restDays (tableOf (a .wing)) (a .year)) ≡ c .rows .result))
-good c = let y = c .before in (named (y .before), (y .if2 .left, days-length _ _ ∙ sym (c .rows .ensures)))
+unfolding listRefusal
+good c =
+    let t = c .before in
+    let p = lets-pass _ _ (sym (t .before .list-refusal .ensures) ∙ t .if1 .left) in
+    (p .0, (p .1, days-length _ _ ∙ sym (c .rows .ensures)))
 
-returns-3 : tie.Need-returns-3
+returns-2 : tie.Need-returns-2
 unfolding listAnswer listBuffer
-returns-3 c =
+returns-2 c =
     let g = good (c .before) in
-    let t = lt-ltb _ _ (c .if3 .taken) in
+    let t = lt-ltb _ _ (c .if2 .taken) in
     (rw (g .0, g .1 .0, g .1 .1, t), rw (g .0, g .1 .0, g .1 .1, t))
 
 write-wing-requires : tie.Need-write-wing-requires
@@ -50,16 +46,16 @@ write-wing-requires c κs =
     let y = c .before in
     let t = y .before in
     let e = y .year-span .ensures in
-    (subst (λ (h : ℕ). Spans h (y .year-span .result)) (sym (e .year)) e, rw (← t .before .rows .ensures) (t .if3 .left))
+    (subst (λ (h : ℕ). Spans h (y .year-span .result)) (sym (e .year)) e, rw (← t .before .rows .ensures) (t .if2 .left))
 
-returns-4 : tie.Need-returns-4
+returns-3 : tie.Need-returns-3
 unfolding listAnswer listBuffer
-returns-4 c =
+returns-3 c =
     let d = c .before .before in
     let s = d .before .before in
     let t = s .before in
     let g = good (t .before) in
-    let l = le-ltb _ _ (t .if3 .left) in (
+    let l = le-ltb _ _ (t .if2 .left) in (
       rw (g .0, g .1 .0, g .1 .1, l),
       rw (g .0, g .1 .0, g .1 .1, l) (rw (s .year-span .ensures .year) at (d .write-wing .ensures)),
     )
@@ -73,9 +69,7 @@ rest-days-spec =
     returns
     (search needs)
     returns-2
-    (search needs)
-    returns-3
-    (λ c κs. within 1 lastYear _ (c .before .before .if2 .left))
+    (λ c κs. within 1 lastYear _ (good (c .before) .1 .0))
     write-wing-requires
     (search needs)
-    returns-4)
+    returns-3)

@@ -8,11 +8,12 @@ use lib.ListN.{length, take}
 use lib.Seq.{take-append-seam}
 use Rattle.laws.specs.Buffer.{overwrite}
 use Rattle.laws.proofs.Tests.{within}
-use Rattle.molad.specs.Years.{lastYear}
+use Rattle.molad.specs.Years.{lastYear, outOfYears}
 use Rattle.rest.specs.Wings.{outOfWings, tableOf}
 use Rattle.rest.specs.Steps.{restAt}
-use Rattle.rest.specs.Answers.{listAnswer, listBuffer}
+use Rattle.rest.specs.Answers.{noList, listRefusal, listAnswer, listBuffer}
 use Rattle.rest.proofs.Passed.{tables-pass}
+use Rattle.rest.proofs.Refused.{refuses, keeps, lets-pass}
 use Rattle.stretch.specs.Stretches.{stretchRows}
 use Rattle.stretch.specs.Steps.{rowsAt}
 use Rattle.stretch.proofs.Ended.{stretches-same}
@@ -20,33 +21,29 @@ use Rattle.stretch.proofs.stretches.Statement.{statement}
 use Rattle.stretch.proofs.stretches.Tie as tie
 
 returns : tie.Need-returns
+unfolding listRefusal listAnswer listBuffer
 returns c =
     let t = c .before in
-    let e = sym (t .before .out-of-wings .ensures) ∙ t .if1 .taken in
-    (rw e (c .no-list .ensures), rw e)
+    let e = t .before .list-refusal .ensures in
+    let n = rw e at (t .if1 .taken) in
+    (c .no-list .ensures ∙ rw e (refuses _ _ noList _ n), keeps _ _ _ _ n)
 
--- The wing is 1 or 2.
-named : (c : tie.Else1) → outOfWings (c .before .before .before .args .wing) ≡ false
-named c = sym (c .before .out-of-wings .ensures) ∙ c .if1 .left
-
-returns-2 : tie.Need-returns-2
-unfolding listAnswer listBuffer
-returns-2 c =
-    let t = c .before in
-    let o = named (t .before) in
-    (rw (o, t .if2 .taken) (c .no-list2 .ensures), rw (o, t .if2 .taken))
+-- Wing and year are good.
+good : (c : tie.Else1) → let a = c .before .before .before .args in (outOfWings (a .wing) ≡ false) × (outOfYears (a .year) ≡ false)
+unfolding listRefusal
+good c = lets-pass _ _ (sym (c .before .list-refusal .ensures) ∙ c .if1 .left)
 
 -- What is worked out is the year's list.
 listed :
     (c : tie.After-write-rows) →
-    let a = c .before .before .before .before .before .before .before .before .args in
+    let a = c .before .before .before .before .before .before .before .args in
     let list = stretchRows (tableOf (a .wing)) (a .year) in
     (c .write-rows .result ≡ length list) × (take (c .write-rows .result) (c .write-rows .last .1 .1 .1 .1 .0) ≡ list)
 unfolding overwrite
 listed c =
     let w = c .before .before in
     let y = w .before in
-    let a = y .before .before .before .before .before .args in
+    let a = y .before .before .before .before .args in
     let table = tableOf (a .wing) in
     let e = y .year-span .ensures in
     let n = c .write-rows .ensures in
@@ -55,33 +52,31 @@ listed c =
     let rows = rowsAt rest (y .year-span .result .«new_year») (y .year-span .result .length) in
     rw (same, n .1 .1) (n .0, rw (n .0) (take-append-seam rows _))
 
-returns-3 : tie.Need-returns-3
+returns-2 : tie.Need-returns-2
 unfolding listAnswer listBuffer
-returns-3 c =
+returns-2 c =
     let r = c .before .before in
-    let y = r .before .before .before .before in
-    let o = named (y .before) in
+    let g = good (r .before .before .before .before) in
     let n = listed r .0 in
-    let t = lt-ltb _ _ (c .if3 .taken) in
-    (rw (o, y .if2 .left, ← n, t), rw (o, y .if2 .left, ← n, t))
+    let t = lt-ltb _ _ (c .if2 .taken) in
+    (rw (g .0, g .1, ← n, t), rw (g .0, g .1, ← n, t))
 
 copy-requires : tie.Need-copy-requires
 copy-requires c κs =
     let t = c .before .before in
     let w = listed (t .before .before) in
-    rw (w .1, ← w .0) (t .if3 .left)
+    rw (w .1, ← w .0) (t .if2 .left)
 
-returns-4 : tie.Need-returns-4
+returns-3 : tie.Need-returns-3
 unfolding listAnswer listBuffer
-returns-4 c =
+returns-3 c =
     let k = c .before .before in
     let t = k .before .before .before in
     let r = t .before .before in
-    let y = r .before .before .before .before in
-    let o = named (y .before) in
+    let g = good (r .before .before .before .before) in
     let w = listed r in
-    let f = le-ltb _ _ (t .if3 .left) in
-    (rw (o, y .if2 .left, ← w .0, f), rw (o, y .if2 .left, ← w .0, f) (rw (w .1) at (k .copy .ensures)))
+    let f = le-ltb _ _ (t .if2 .left) in
+    (rw (g .0, g .1, ← w .0, f), rw (g .0, g .1, ← w .0, f) (rw (w .1) at (k .copy .ensures)))
 
 pub stretches-spec : {M : Type 1} → statement M
 stretches-spec =
@@ -90,15 +85,13 @@ stretches-spec =
     (search needs)
     (search needs)
     returns
-    (search needs)
-    returns-2
-    (λ c κs. within 1 lastYear _ (c .if2 .left))
+    (λ c κs. within 1 lastYear _ (good c .1))
     (search needs)
     (search needs)
     (λ c κs. let e = c .before .before .year-span .ensures in let m = e .measured in (omega arith, (omega arith, (m, omega arith))))
-    returns-3
+    returns-2
     (search needs)
     (λ c. let w = listed (c .before .before .before) in rw (w .1) (w .0))
     copy-requires
     (search needs)
-    returns-4)
+    returns-3)
