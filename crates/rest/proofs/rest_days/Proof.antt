@@ -9,29 +9,24 @@ use Rattle.molad.specs.Years.{lastYear, outOfYears}
 use Rattle.newyear.specs.Spans.{Spans}
 use Rattle.rest.specs.Table.{restDays}
 use Rattle.rest.specs.Wings.{outOfWings, tableOf}
-use Rattle.rest.specs.Answers.{noList, listRefusal, listAnswer, listBuffer}
-use Rattle.rest.proofs.Refused.{refuses, keeps, lets-pass}
+use Rattle.rest.specs.Answers.{listAnswer, listBuffer}
+use Rattle.rest.proofs.Refused.{list-refused, list-passed}
 use Rattle.rest.proofs.Rows.{days-length}
 use Rattle.rest.proofs.rest_days.Statement.{statement}
 use Rattle.rest.proofs.rest_days.Tie as tie
 
 returns : tie.Need-returns
-unfolding listRefusal listAnswer listBuffer
-returns c =
-    let t = c .before in
-    let e = t .before .list-refusal .ensures in
-    let n = rw e at (t .if1 .taken) in
-    (c .no-list .ensures ∙ rw e (refuses _ _ noList _ n), keeps _ _ _ _ n)
+unfolding listAnswer listBuffer
+returns c = let t = c .before in list-refused _ _ _ _ _ _ _ (t .before .list-refusal .ensures) (t .if1 .taken) (c .no-list .ensures)
 
 -- Wing and year are good, and so many entries are wanted.
 good :
     (c : tie.After-rows) →
     let a = c .before .before .before .before .args in
     (outOfWings (a .wing) ≡ false) × ((outOfYears (a .year) ≡ false) × (length (restDays (tableOf (a .wing)) (a .year)) ≡ c .rows .result))
-unfolding listRefusal
 good c =
     let t = c .before in
-    let p = lets-pass _ _ (sym (t .before .list-refusal .ensures) ∙ t .if1 .left) in
+    let p = list-passed _ _ _ (t .before .list-refusal .ensures) (t .if1 .left) in
     (p .0, (p .1, days-length _ _ ∙ sym (c .rows .ensures)))
 
 returns-2 : tie.Need-returns-2

@@ -1,6 +1,6 @@
 -- The year's runs are worked out into entries of its own, and copied where there is room.
 use borrow.Author.Needs.{needs}
-use mathlib.Core.Path.{_≡_, sym, _∙_}
+use mathlib.Core.Path.{_≡_}
 use mathlib.Core.Bool.{false}
 use native.Mathlib.Omega.{arith}
 use borrow.Author.Tests.{lt-ltb, le-ltb}
@@ -11,9 +11,9 @@ use Rattle.laws.proofs.Tests.{within}
 use Rattle.molad.specs.Years.{lastYear, outOfYears}
 use Rattle.rest.specs.Wings.{outOfWings, tableOf}
 use Rattle.rest.specs.Steps.{restAt}
-use Rattle.rest.specs.Answers.{noList, listRefusal, listAnswer, listBuffer}
+use Rattle.rest.specs.Answers.{listAnswer, listBuffer}
 use Rattle.rest.proofs.Passed.{tables-pass}
-use Rattle.rest.proofs.Refused.{refuses, keeps, lets-pass}
+use Rattle.rest.proofs.Refused.{list-refused, list-passed}
 use Rattle.stretch.specs.Stretches.{stretchRows}
 use Rattle.stretch.specs.Steps.{rowsAt}
 use Rattle.stretch.proofs.Ended.{stretches-same}
@@ -21,17 +21,12 @@ use Rattle.stretch.proofs.stretches.Statement.{statement}
 use Rattle.stretch.proofs.stretches.Tie as tie
 
 returns : tie.Need-returns
-unfolding listRefusal listAnswer listBuffer
-returns c =
-    let t = c .before in
-    let e = t .before .list-refusal .ensures in
-    let n = rw e at (t .if1 .taken) in
-    (c .no-list .ensures ∙ rw e (refuses _ _ noList _ n), keeps _ _ _ _ n)
+unfolding listAnswer listBuffer
+returns c = let t = c .before in list-refused _ _ _ _ _ _ _ (t .before .list-refusal .ensures) (t .if1 .taken) (c .no-list .ensures)
 
 -- Wing and year are good.
 good : (c : tie.Else1) → let a = c .before .before .before .args in (outOfWings (a .wing) ≡ false) × (outOfYears (a .year) ≡ false)
-unfolding listRefusal
-good c = lets-pass _ _ (sym (c .before .list-refusal .ensures) ∙ c .if1 .left)
+good c = list-passed _ _ _ (c .before .list-refusal .ensures) (c .if1 .left)
 
 -- What is worked out is the year's list.
 listed :
