@@ -72,11 +72,11 @@ fn write_wing(wing: u64, span: newyear::Span, out: &mut [u64])
     ensures { λ _. ⌜ now (out .exit) ≡ overwrite (now (out .entry)) (restDays (tableOf wing) (span .year)) ⌝ }
 {
     if wing == 1 {
-        let table = REST_TABLE;
-        write_days(&table, span, out);
+        let rest = REST_TABLE;
+        write_days(&rest, span, out);
     } else {
-        let table = GUEST_TABLE;
-        write_days(&table, span, out);
+        let guest = GUEST_TABLE;
+        write_days(&guest, span, out);
     }
 }
 
