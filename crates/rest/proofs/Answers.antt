@@ -18,9 +18,9 @@ use Rattle.molad.specs.Years.{lastYear, InYears, outOfYears}
 use Rattle.hebrew.specs.Dates.{dayNumber}
 use Rattle.rest.specs.Table.{restDays}
 use Rattle.rest.specs.Wings.{IsWing, outOfWings, tableOf}
-use Rattle.rest.specs.Steps.{restOn}
+use Rattle.rest.specs.Steps.{restOn, listRefusal}
 use Rattle.rest.specs.Promises.{RestDaysOf, restCount, KeptBy}
-use Rattle.rest.specs.Answers.{noList, listRefusal, listAnswer, listBuffer, restDaysAnswer, restDaysBuffer, wingRestDays, wingRestDaysBuffer}
+use Rattle.rest.specs.Answers.{noList, listAnswer, listBuffer, restDaysAnswer, restDaysBuffer, wingRestDays, wingRestDaysBuffer}
 use Rattle.rest.specs.declared.ListAnswer.{ListAnswer}
 use Rattle.hebrew.specs.declared.date.YearDate.{YearDate}
 use Rattle.rest.proofs.Passed.{tables-pass}

@@ -6,7 +6,8 @@ use Prim.Native.Nat.{ℕ}
 use native.Mathlib.Omega.{arith}
 use Rattle.molad.specs.Years.{outOfYears}
 use Rattle.rest.specs.Wings.{outOfWings}
-use Rattle.rest.specs.Answers.{noList, listRefusal}
+use Rattle.rest.specs.Steps.{listRefusal}
+use Rattle.rest.specs.Answers.{noList}
 use Rattle.rest.specs.declared.ListAnswer.{ListAnswer}
 
 -- By what the wing's and the year's test say.
@@ -21,10 +22,10 @@ refuses true year f rest n = refl
 refuses false true f rest n = refl
 refuses false false f rest n = absurd (n refl)
 
-passes : (wing year : Bool) → number wing year ≡ 0 → (wing ≡ false) × (year ≡ false)
-passes true year e = absurd (omega arith)
-passes false true e = absurd (omega arith)
-passes false false e = (refl, refl)
+lets-pass : (wing year : Bool) → number wing year ≡ 0 → (wing ≡ false) × (year ≡ false)
+lets-pass true year e = absurd (omega arith)
+lets-pass false true e = absurd (omega arith)
+lets-pass false false e = (refl, refl)
 
 module _ (wing h : ℕ) where
   pub list-refused :
@@ -35,7 +36,7 @@ module _ (wing h : ℕ) where
       let some = rw e at z in
       (rw (a, e) (refuses (outOfWings wing) (outOfYears h) noList rest some), refuses (outOfWings wing) (outOfYears h) (λ _. buffer) after some)
 
-  -- Where nothing does wing and year are good.
+  -- Where nothing does, wing and year are good.
   pub list-passed : (n : ℕ) → n ≡ listRefusal wing h → n ≡ 0 → (outOfWings wing ≡ false) × (outOfYears h ≡ false)
   unfolding listRefusal
-  list-passed n e z = passes (outOfWings wing) (outOfYears h) (rw e at z)
+  list-passed n e z = lets-pass (outOfWings wing) (outOfYears h) (rw e at z)

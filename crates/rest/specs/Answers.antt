@@ -8,7 +8,7 @@ use lib.ListN.{length}
 use Rattle.laws.specs.Buffer.{overwrite}
 use Rattle.molad.specs.Years.{outOfYears}
 use Rattle.rest.specs.Table.{restDays}
-use Rattle.rest.specs.Wings.{outOfWings, ofWing}
+use Rattle.rest.specs.Wings.{ofWing}
 use Rattle.rest.specs.declared.ListAnswer.{ListAnswer}
 
 abbrev pub noList : ℕ → ListAnswer
@@ -25,10 +25,6 @@ listAnswer h buffer list count =
 -- A refusal leaves the buffer as it was.
 unfoldable pub listBuffer : ℕ → List ℕ → List ℕ → List ℕ
 listBuffer h buffer list = cond (outOfYears h) buffer (cond (ltb (length buffer) (length list)) buffer (overwrite buffer list))
-
--- What refuses the list of a wing before its buffer is looked at; 0 where nothing does.
-unfoldable pub listRefusal : ℕ → ℕ → ℕ
-listRefusal wing h = cond (outOfWings wing) 15 (cond (outOfYears h) 1 0)
 
 -- One entry for each rest day.
 abbrev pub restDaysAnswer : List ℕ → ℕ → List ℕ → ListAnswer

@@ -2,7 +2,7 @@ use borrow.Author.Needs.{needs}
 use mathlib.Core.Path.{_≡_, sym, _∙_}
 use mathlib.Core.Bool.{false}
 use Rattle.rest.specs.Wings.{outOfWings}
-use Rattle.rest.specs.Answers.{listRefusal}
+use Rattle.rest.specs.Steps.{listRefusal}
 use Rattle.rest.proofs.list_refusal.Statement.{statement}
 use Rattle.rest.proofs.list_refusal.Tie as tie
 
