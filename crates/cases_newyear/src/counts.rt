@@ -3,7 +3,7 @@ use molad::LAST_YEAR;
 ghost use mathlib.Core.Path.{_≡_};
 ghost use Prim.Native.Nat.{_≤_};
 ghost use Rattle.molad.specs.Years.{lastYear};
-ghost use Rattle.cases_newyear.specs.Counts.{kindAnswered, passing};
+ghost use Rattle.cases_newyear.specs.Counts.{passing};
 ghost use Rattle.cases_newyear.specs.Counts.{passes as Counts·passes};
 
 // No cause has this number.
@@ -11,17 +11,10 @@ pub const ANY_CAUSE: u64 = 6;
 
 pub struct Asked {
     pub cause: u64,
-    // A kind is 1,000 × the weekday of New Year + the year's length; 0 any kind.
+    // The year's kind, 1 to 14; 0 any kind.
     pub kind: u64,
     // The kind of the year before.
     pub kind_before: u64,
-}
-
-fn kind(year: u64) -> u64
-    ensures { λ r. ⌜ r ≡ kindAnswered year ⌝ }
-{
-    let answer = newyear::year(year);
-    1000 * answer.weekday + answer.length
 }
 
 fn passes(asked: Asked, year: u64) -> bool
@@ -29,8 +22,8 @@ fn passes(asked: Asked, year: u64) -> bool
     ensures { λ r. ⌜ r ≡ Counts·passes asked year ⌝ }
 {
     ((asked.cause == ANY_CAUSE) | (newyear::new_year(year).cause == asked.cause))
-        & ((asked.kind == 0) | (kind(year) == asked.kind))
-        & ((asked.kind_before == 0) | (kind(year - 1) == asked.kind_before))
+        & ((asked.kind == 0) | (newyear::kind(year).kind == asked.kind))
+        & ((asked.kind_before == 0) | (newyear::kind(year - 1).kind == asked.kind_before))
 }
 
 pub fn count(asked: Asked) -> u64

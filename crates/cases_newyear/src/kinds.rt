@@ -1,8 +1,8 @@
-// Source 001: the fourteen kinds of year and the ten that never come; each cause of a delay, and what the last two do.
-ghost use Prim.Native.Nat.{_≤_};
+// The fourteen kinds of year; each cause of a delay, and what the last two do, by source 001.
 use crate::counts::ANY_CAUSE;
 use crate::counts::Asked;
 use crate::counts::count;
+use crate::lines;
 use show::end;
 use show::number;
 use show::text;
@@ -33,36 +33,44 @@ fn by_cause(cause: u64, kind: u64, kind_before: u64) {
     });
 }
 
-// Its Table 2, for New Year on one weekday.
-fn table_2(thousands: u64)
-    requires { ⌜ thousands ≤ 7000 ⌝ }
-{
-    of_kind(thousands + 353);
-    of_kind(thousands + 354);
-    of_kind(thousands + 355);
-    of_kind(thousands + 383);
-    of_kind(thousands + 384);
-    of_kind(thousands + 385);
+// The years 1 to 27 show every kind.
+fn first_years() {
+    let mut year = 1;
+    while year <= 27 {
+        lines::kind(year);
+        year += 1;
+    }
 }
 
-pub fn rows() {
-    table_2(2000);
-    table_2(3000);
-    table_2(5000);
-    table_2(7000);
+// All years, and how many are of each kind; 15 is no kind.
+fn numbers() {
+    let mut kind = 0;
+    while kind <= 15 {
+        of_kind(kind);
+        kind += 1;
+    }
+}
+
+fn causes() {
     by_cause(0, 0, 0);
     by_cause(1, 0, 0);
     by_cause(2, 0, 0);
     by_cause(3, 0, 0);
     // The Tuesday rule: the year is Thursday 354, after Saturday 355 or Thursday 385.
     by_cause(4, 0, 0);
-    by_cause(4, 5354, 0);
-    by_cause(4, 0, 7355);
-    by_cause(4, 0, 5385);
+    by_cause(4, 7, 0);
+    by_cause(4, 0, 12);
+    by_cause(4, 0, 10);
     // The Monday rule: the year is Tuesday 354, after Thursday 383.
     by_cause(5, 0, 0);
-    by_cause(5, 3354, 0);
-    by_cause(5, 0, 5383);
+    by_cause(5, 5, 0);
+    by_cause(5, 0, 9);
     // New Year on Monday after a common year comes after Thursday 354.
-    by_cause(ANY_CAUSE, 0, 5354);
+    by_cause(ANY_CAUSE, 0, 7);
+}
+
+pub fn rows() {
+    first_years();
+    numbers();
+    causes();
 }

@@ -1,4 +1,5 @@
-// Molads, New Years, years and the years of days, one line for each: what is asked, `->`, and every number of the answer.
+// Molads, New Years, years, their kinds and the years of days, one line for each: what is asked, `->`, and every number of
+// the answer.
 mod counts;
 mod document;
 mod ends;

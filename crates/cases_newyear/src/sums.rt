@@ -1,13 +1,18 @@
-// All 10,000 New Years with their molads, delays and causes, all 9,999 lengths, and the year of every New Year and of
-// the day before it, each as one number.
+// All 10,000 New Years with their molads, delays and causes, all 9,999 lengths and kinds, and the year of every New Year
+// and of the day before it, each as one number.
 ghost use Prim.Native.Nat.{_<_};
 use show::end;
 use show::mixed;
 use show::number;
 use show::text;
 
+fn with_kind(answer: newyear::KindAnswer) -> u64 {
+    mixed(mixed(answer.kind, answer.weekday), answer.length)
+}
+
 // 0 New Year, 1 the length, 2 the molad's day, 3 its hour, 4 its part, 5 the months, 6 the year that New Year's day is
-// in, 7 that of the day before, 8 the delay and its cause, 9 the same as the year tells it.
+// in, 7 that of the day before, 8 the delay and its cause, 9 the same as the year tells it, 10 the kind with its weekday
+// and length.
 fn asked(what: u64, year: u64) -> u64 {
     let first = newyear::new_year(year);
     match what {
@@ -20,6 +25,7 @@ fn asked(what: u64, year: u64) -> u64 {
         6 => newyear::year_of_day(first.day).year,
         8 => mixed(first.delay, first.cause),
         9 => mixed(newyear::year(year).delay, newyear::year(year).cause),
+        10 => with_kind(newyear::kind(year)),
         _ => newyear::year_of_day(std::num::wrapping_sub_u64(first.day, 1)).year,
     }
 }
@@ -55,4 +61,5 @@ pub fn rows() {
     line(b"year of the day before:", 7, 10_000);
     line(b"10,000 delays and causes:", 8, 10_000);
     line(b"as the years tell them:", 9, 9999);
+    line(b"9,999 kinds:", 10, 9999);
 }

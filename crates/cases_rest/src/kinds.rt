@@ -1,8 +1,10 @@
-// The lists of a year of each of the fourteen kinds, whole.
+// The lists of a year of each of the fourteen kinds, whole, under the kind's number.
+use crate::lines::kind;
 use crate::lines::rest_days;
 use crate::lines::stretches;
 
 fn both(wing: u64, year: u64) {
+    kind(year);
     rest_days(wing, year, 140);
     stretches(wing, year, 140);
 }

@@ -11,6 +11,12 @@ pub fn wing(wing: u64) {
     end();
 }
 
+pub fn kind(year: u64) {
+    text(b"kind");
+    number(newyear::kind(year).kind);
+    end();
+}
+
 pub fn stretch(wing: u64, day: u64) {
     let answer = stretch::stretch(wing, day);
     text(b"stretch");

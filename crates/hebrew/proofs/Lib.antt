@@ -2,5 +2,6 @@ pub mod Answers
 pub mod Dates
 pub mod Placed
 pub mod RoundTrip
+pub mod Weekdays
 pub mod Spanned
 pub mod Walked

@@ -1,4 +1,5 @@
 pub mod Months
 pub mod Dates
+pub mod Weekdays
 pub mod Steps
 pub mod Answers

@@ -3,13 +3,13 @@ use mathlib.Core.Path.{_≡_, refl, sym, _∙_}
 use mathlib.Core.Bool.{Bool, true, false, _&&_, _||_, cond, Bool·beq, false≢true}
 use mathlib.Core.List.{List, [], _∷_}
 use mathlib.Core.Logic.{by-cases}
-use Prim.Native.Nat.{ℕ, zero, suc, _+_, _≤_, _<_}
+use Prim.Native.Nat.{ℕ, zero, suc, _+_, _-_, _≤_, _<_}
 use native.Mathlib.Omega.{arith}
 use native.Mathlib.Decide.{ℕ-discrete}
-use borrow.Author.Tests.{eqb-true, ne-eqb, ltb-false}
+use borrow.Author.Tests.{eq-eqb, eqb-true, ne-eqb, ltb-false}
 use lib.Dec.{eqb, ltb}
 use lib.ListN.{length, getD}
-use Rattle.laws.specs.Runs.{every, eachOf, eitherWay, elem, outside}
+use Rattle.laws.specs.Runs.{every, eachOf, eitherWay, elem, placeIn, outside}
 
 pub and-left : (a b : Bool) → a && b ≡ true → a ≡ true
 and-left true b e = refl
@@ -71,6 +71,18 @@ unfolding eachOf
 each-at [] p e i h = absurd (omega arith)
 each-at (x ∷ l) p e zero h = and-left _ _ e
 each-at (x ∷ l) p e (suc i) h = each-at l p (and-right (p x) _ e) i (omega arith)
+
+-- An entry stands at its place.
+pub place-of : (l : List ℕ) (x : ℕ) → elem x l ≡ true → (1 ≤ placeIn l x) × (placeIn l x ≤ length l) × (getD l (placeIn l x - 1) 0 ≡ x)
+unfolding placeIn
+place-of [] x h = absurd (let z : _≡_ {A = ℕ} 0 1 = cc in omega arith)
+place-of (y ∷ l) x h =
+    by-cases (ℕ-discrete x y)
+    (λ q. rw (eq-eqb x y q) (omega arith, omega arith, sym q))
+    (λ q.
+    let p = place-of l x (rw (ne-eqb x y q) at h) in
+    let e : suc (placeIn l x) - 1 ≡ suc (placeIn l x - 1) = omega (arith, p .0) in
+    rw (ne-eqb x y q) (omega arith, omega (arith, p .1), rw e (p .2)))
 
 -- Two tests that agree on a run of numbers, or on all.
 pub every-alike : (a n : ℕ) (p q : ℕ → Bool) → ((k : ℕ) → a ≤ k → k < a + n → p k ≡ q k) → every a n p ≡ every a n q

@@ -1,6 +1,6 @@
--- Tests that the checker computes, over a run of numbers, over a table and over both truth values; and a range that a
--- number lies outside.
-use mathlib.Core.Bool.{Bool, true, false, _&&_, _||_}
+-- Tests that the checker computes, over a run of numbers, over a table and over both truth values; a number's place in a
+-- table; and a range that a number lies outside.
+use mathlib.Core.Bool.{Bool, true, false, _&&_, _||_, cond}
 use mathlib.Core.List.{List, [], _∷_}
 use Prim.Native.Nat.{ℕ, zero, suc}
 use lib.Dec.{eqb, ltb}
@@ -23,6 +23,11 @@ eitherWay p = p true && p false
 abbrev pub elem : ℕ → List ℕ → Bool
 elem x [] = false
 elem x (y ∷ l) = eqb x y || elem x l
+
+-- The place of x in the list, counted from 1. What is no entry has the place after the last.
+unfoldable pub placeIn : List ℕ → ℕ → ℕ
+placeIn [] x = 1
+placeIn (y ∷ l) x = cond (eqb x y) 1 (suc (placeIn l x))
 
 -- x lies below a or above b.
 abbrev pub outside : ℕ → ℕ → ℕ → Bool

@@ -1,10 +1,11 @@
--- What `new_year`, `year` and `year_of_day` promise, and that each contract leaves one answer.
+-- What `new_year`, `year`, `kind` and `year_of_day` promise, and that each contract leaves one answer.
 use mathlib.Core.Path.{_≡_, refl, sym, _∙_}
 use mathlib.Core.Bool.{Bool, cond}
 use mathlib.Core.List.{[], _∷_}
 use Prim.Native.Nat.{ℕ, _+_, _-_, _%_}
 use native.Mathlib.Omega.{arith}
 use Rattle.laws.specs.Promise.{_else_, Promised}
+use Rattle.laws.proofs.Tests.{place-of}
 use Rattle.laws.proofs.One.{one-result}
 use Rattle.laws.proofs.Promises.{ranged, let-pass, asks, answered}
 use Rattle.days.specs.Range.{firstDay, lastDay, InRange}
@@ -12,16 +13,19 @@ use Rattle.days.specs.Weekday.{weekday}
 use Rattle.molad.specs.Years.{lastYear, InYears, lastNewYear, InNewYears, outOfNewYears, leap, monthsIn}
 use Rattle.molad.specs.Molad.{moladDay, moladTime}
 use Rattle.newyear.specs.NewYear.{delayIn, newYear, yearLength, yearOf, InYear}
-use Rattle.newyear.specs.Answers.{noNewYear, newYearOn, newYearAnswer, yearAnswer, yearOfDayAnswer}
-use Rattle.newyear.specs.Promises.{Explained, PromisedNewYear}
+use Rattle.newyear.specs.Kinds.{kinds, kindOf, kindNumber}
+use Rattle.newyear.specs.Answers.{noNewYear, newYearOn, newYearAnswer, yearAnswer, noKind, kindAnswer, yearOfDayAnswer}
+use Rattle.newyear.specs.Promises.{Explained, PromisedNewYear, PromisedKind}
 use Rattle.newyear.specs.Spans.{Spans}
 use Rattle.newyear.specs.Steps.{IsDelay}
 use Rattle.newyear.specs.declared.delays.Delayed.{Delayed}
 use Rattle.newyear.specs.declared.NewYearAnswer.{NewYearAnswer}
 use Rattle.newyear.specs.declared.YearAnswer.{YearAnswer}
+use Rattle.newyear.specs.declared.kinds.KindAnswer.{KindAnswer}
 use Rattle.newyear.specs.declared.YearOfDayAnswer.{YearOfDayAnswer}
 use Rattle.newyear.specs.declared.span.Span.{Span}
 use Rattle.newyear.proofs.Late.{explained}
+use Rattle.newyear.proofs.Lengths.{kind-in}
 use Rattle.newyear.proofs.Quick.{quickDelay, delayIn-quick}
 use Rattle.newyear.proofs.YearOf.{held}
 
@@ -79,6 +83,14 @@ every-cause = (
   (has-cause 7 4 (omega arith) refl, has-cause 75 5 (omega arith) refl),
 )
 
+-- The kind told is one of the fourteen.
+pub kind-promised : (h : ℕ) → PromisedKind h (kindAnswer h)
+unfolding kindAnswer kindNumber kindOf yearLength
+kind-promised h =
+    asks noKind (ranged 1 lastYear h) (omega arith) refl (refl, (refl, refl)) (λ y.
+    let p = place-of kinds (kindOf h) (kind-in h (y .0) (omega arith)) in
+    answered refl ((refl, refl), ((p .0, p .1), p .2)))
+
 -- The year told holds the day.
 pub year-of-day-promised :
     (j : ℕ) →
@@ -95,6 +107,9 @@ new-year-one h = one-result (newYearAnswer h)
 
 pub year-one : (h : ℕ) (r s : YearAnswer) → r ≡ yearAnswer h → s ≡ yearAnswer h → r ≡ s
 year-one h = one-result (yearAnswer h)
+
+pub kind-one : (h : ℕ) (r s : KindAnswer) → r ≡ kindAnswer h → s ≡ kindAnswer h → r ≡ s
+kind-one h = one-result (kindAnswer h)
 
 pub year-of-day-one : (j : ℕ) (r s : YearOfDayAnswer) → r ≡ yearOfDayAnswer j → s ≡ yearOfDayAnswer j → r ≡ s
 year-of-day-one j = one-result (yearOfDayAnswer j)

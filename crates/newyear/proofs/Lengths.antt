@@ -1,10 +1,10 @@
 -- One test over the years 1 to 10,000: New Years rise, each length is one of the six and 383 or more exactly in leap
--- years, each year is one of the fourteen kinds, and no New Year falls on Sunday, Wednesday or Friday.
+-- years, and each year is one of the fourteen kinds.
 use mathlib.Core.Path.{_≡_, refl}
 use mathlib.Core.Bool.{Bool, true, false, _&&_, not, Bool·beq}
 use mathlib.Core.List.{List, [], _∷_}
 use mathlib.Core.Logic.{by-cases}
-use Prim.Native.Nat.{ℕ, zero, suc, _+_, _*_, _-_, _≤_, _<_}
+use Prim.Native.Nat.{ℕ, zero, suc, _+_, _*_, _-_, _/_, _%_, _≤_, _<_}
 use native.Mathlib.Omega.{arith}
 use native.Mathlib.Decide.{ℕ-discrete}
 use lib.Dec.{ltb, leb}
@@ -15,7 +15,7 @@ use Rattle.days.specs.Range.{firstDay}
 use Rattle.days.specs.Weekday.{weekday}
 use Rattle.molad.specs.Years.{lastNewYear, leap}
 use Rattle.newyear.specs.NewYear.{newYear, yearLength}
-use Rattle.newyear.specs.Kinds.{lengths, IsLength, kinds, kindOf}
+use Rattle.newyear.specs.Kinds.{lengths, IsLength, kindCode, kinds, IsKind, everyKind, kindOf}
 use Rattle.newyear.proofs.Quick.{quick, newYear-quick}
 
 six-bounds : eachOf lengths (λ n. not (outside 353 385 n)) ≡ true
@@ -27,12 +27,20 @@ is-length n e =
     let w = within 353 385 n (not-true _ (of lengths (λ n. not (outside 353 385 n)) six-bounds n e)) in
     record { among = e; short = w .0; long = w .1 }
 
+-- A test of each kind, of one of them.
+pub kind-passes : (p : ℕ → ℕ → Bool) → everyKind p ≡ true → (w len : ℕ) → IsLength len → IsKind (kindCode w len) → p w len ≡ true
+unfolding everyKind
+kind-passes p e w len n k =
+    let a : (1000 * w + len) / 1000 ≡ w = omega (arith, n .long) in
+    let b : (1000 * w + len) % 1000 ≡ len = omega (arith, n .long) in
+    rw (a, b) at (of kinds (λ k. p (k / 1000) (k % 1000)) e (kindCode w len) k)
+
 -- What the test computes of year h from its New Year a and the next one, b; the last two say that New Year h comes in
 -- the h-th year of 365¼ days from day 347,700 on.
 tests : ℕ → ℕ → ℕ → List Bool
 tests h a b =
-    ltb a b ∷ elem (b - a) lengths ∷ Bool·beq (leb 383 (b - a)) (leap h) ∷ elem (1000 * weekday a + (b - a)) kinds
-    ∷ not (elem (weekday a) (1 ∷ 4 ∷ 6 ∷ [])) ∷ leb (1461 * (h - 1) + 1390800) (4 * a) ∷ leb (4 * a) (1461 * h + 1390800) ∷ []
+    ltb a b ∷ elem (b - a) lengths ∷ Bool·beq (leb 383 (b - a)) (leap h) ∷ elem (kindCode (weekday a) (b - a)) kinds
+    ∷ leb (1461 * (h - 1) + 1390800) (4 * a) ∷ leb (4 * a) (1461 * h + 1390800) ∷ []
 
 -- The test of n years from year h on, whose New Year is a: each New Year is worked out once.
 walk : ℕ → ℕ → ℕ → Bool
@@ -75,18 +83,23 @@ module _ (h : ℕ) (l : 1 ≤ h) (u : h ≤ lastNewYear) where
   length-leap = rw (newYear-quick h l, newYear-quick (h + 1) (omega arith)) (beq-true _ _ (passed .1 .1 .0))
 
   -- Each year is one of the fourteen kinds.
-  pub kind-in : elem (kindOf h) kinds ≡ true
+  pub kind-in : IsKind (kindOf h)
   unfolding tests yearLength kindOf
   kind-in = rw (newYear-quick h l, newYear-quick (h + 1) (omega arith)) (passed .1 .1 .1 .0)
 
+  -- So what a test says of each kind it says of the year's own.
+  pub year-passes : (p : ℕ → ℕ → Bool) → everyKind p ≡ true → p (weekday (newYear h)) (yearLength h) ≡ true
+  unfolding kindOf
+  year-passes p e = kind-passes p e (weekday (newYear h)) (yearLength h) length-in kind-in
+
   -- New Year never falls on Sunday, Wednesday or Friday.
   pub never-on : elem (weekday (newYear h)) (1 ∷ 4 ∷ 6 ∷ []) ≡ false
-  unfolding tests
-  never-on = rw (newYear-quick h l) (not-true _ (passed .1 .1 .1 .1 .0))
+  unfolding everyKind eachOf
+  never-on = not-true _ (year-passes (λ w len. not (elem w (1 ∷ 4 ∷ 6 ∷ []))) refl)
 
   -- New Year comes in the h-th year of 365¼ days from day 347,700 on.
   pub near : (1461 * (h - 1) + 1390800 ≤ 4 * newYear h) × (4 * newYear h ≤ 1461 * h + 1390800)
   unfolding tests
   near =
-      let t = passed .1 .1 .1 .1 .1 in
+      let t = passed .1 .1 .1 .1 in
       rw (newYear-quick h l) (leb-true _ _ (t .0), leb-true _ _ (t .1 .0))

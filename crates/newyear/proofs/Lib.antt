@@ -4,4 +4,5 @@ pub mod Lengths
 pub mod Rise
 pub mod YearOf
 pub mod Answers
+pub mod Fourteen
 pub mod Spanned

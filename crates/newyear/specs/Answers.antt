@@ -1,4 +1,4 @@
--- What `new_year`, `year` and `year_of_day` answer.
+-- What `new_year`, `year`, `kind` and `year_of_day` answer.
 use mathlib.Core.Bool.{cond}
 use Prim.Native.Nat.{ℕ, _/_, _%_}
 use Rattle.days.specs.Range.{outOfRange}
@@ -7,9 +7,11 @@ use Rattle.molad.specs.Units.{partsInHour}
 use Rattle.molad.specs.Years.{outOfYears, outOfNewYears, monthsIn}
 use Rattle.molad.specs.Molad.{moladDay, moladTime}
 use Rattle.newyear.specs.NewYear.{delayIn, newYear, yearLength, yearOf}
+use Rattle.newyear.specs.Kinds.{kindOf, kindNumber}
 use Rattle.newyear.specs.declared.delays.Delayed.{Delayed}
 use Rattle.newyear.specs.declared.NewYearAnswer.{NewYearAnswer}
 use Rattle.newyear.specs.declared.YearAnswer.{YearAnswer}
+use Rattle.newyear.specs.declared.kinds.KindAnswer.{KindAnswer}
 use Rattle.newyear.specs.declared.YearOfDayAnswer.{YearOfDayAnswer}
 
 abbrev pub noNewYear : ℕ → NewYearAnswer
@@ -47,6 +49,16 @@ yearAnswer h =
       delay = delayIn h .delay;
       cause = delayIn h .cause;
     })
+
+abbrev pub noKind : KindAnswer
+noKind = record { refusal = 1; kind = 0; weekday = 0; length = 0 }
+
+abbrev pub kindTold : ℕ → KindAnswer
+kindTold h = record { refusal = 0; kind = kindNumber (kindOf h); weekday = weekday (newYear h); length = yearLength h }
+
+-- Refusal 1: the year lies outside 1..9999.
+unfoldable pub kindAnswer : ℕ → KindAnswer
+kindAnswer h = cond (outOfYears h) noKind (kindTold h)
 
 -- Refusal 4: the day number lies outside the range.
 unfoldable pub yearOfDayAnswer : ℕ → YearOfDayAnswer

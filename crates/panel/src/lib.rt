@@ -17,6 +17,7 @@ pub use civil_dates::bd_weekday;
 pub use hebrew_dates::bd_day_to_hebrew;
 pub use hebrew_dates::bd_hebrew_to_day;
 pub use hebrew_dates::bd_month_length;
+pub use new_years::bd_kind;
 pub use new_years::bd_molad;
 pub use new_years::bd_new_year;
 pub use new_years::bd_new_year_rhodes;

@@ -2,7 +2,7 @@
 ghost use mathlib.Core.Path.{_≡_};
 ghost use Rattle.molad.specs.Answers.{moladAnswer};
 ghost use Rattle.notice.specs.Answers.{noticeAnswer};
-ghost use Rattle.newyear.specs.Answers.{newYearAnswer, yearAnswer, yearOfDayAnswer};
+ghost use Rattle.newyear.specs.Answers.{newYearAnswer, yearAnswer, kindAnswer, yearOfDayAnswer};
 ghost use Rattle.rhodes.specs.Answers.{rhodesAnswer};
 
 #[no_mangle]
@@ -39,6 +39,13 @@ pub extern "C" fn bd_year(year: u64) -> newyear::YearAnswer
     ensures { λ r. ⌜ r ≡ yearAnswer year ⌝ }
 {
     newyear::year(year)
+}
+
+#[no_mangle]
+pub extern "C" fn bd_kind(year: u64) -> newyear::KindAnswer
+    ensures { λ r. ⌜ r ≡ kindAnswer year ⌝ }
+{
+    newyear::kind(year)
 }
 
 #[no_mangle]

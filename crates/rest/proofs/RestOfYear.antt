@@ -3,20 +3,19 @@ use mathlib.Core.Path.{_≡_, refl, sym, _∙_}
 use mathlib.Core.Bool.{Bool, true, false, _&&_, not, or-true, Bool·beq}
 use mathlib.Core.List.{List}
 use mathlib.Core.Logic.{by-cases}
-use Prim.Native.Nat.{ℕ, _+_, _-_, _*_, _/_, _%_, _≤_, _<_}
+use Prim.Native.Nat.{ℕ, _+_, _-_, _%_, _≤_, _<_}
 use native.Mathlib.Omega.{arith}
 use native.Mathlib.Decide.{ℕ-discrete, decLt}
 use borrow.Author.Tests.{lt-ltb, not-true}
 use lib.Dec.{eqb}
 use Rattle.laws.specs.Runs.{every, eachOf, elem}
-use Rattle.laws.proofs.Tests.{at, of, and-left, and-right, beq-true, clash, within}
+use Rattle.laws.proofs.Tests.{at, and-left, and-right, beq-true, clash, within}
 use Rattle.laws.proofs.Promises.{ranged, let-pass}
 use Rattle.days.specs.Range.{firstDay, lastDay, InRange}
 use Rattle.days.specs.Weekday.{weekday}
 use Rattle.molad.specs.Years.{lastYear, lastNewYear}
 use Rattle.newyear.specs.NewYear.{newYear, yearLength, yearOf, InYear}
-use Rattle.newyear.specs.Kinds.{kinds, kindOf}
-use Rattle.newyear.proofs.Lengths.{rises, length-in, kind-in}
+use Rattle.newyear.proofs.Lengths.{rises, length-in, year-passes}
 use Rattle.newyear.proofs.YearOf.{held, year-is, year-in-range, first}
 use Rattle.hebrew.specs.Months.{monthLength, daysBefore}
 use Rattle.hebrew.specs.Dates.{dateOf, monthOf}
@@ -91,18 +90,13 @@ module _ (table : List ℕ) (ok : passes table ≡ true) where
     abbrev rest : ℕ → Bool
     rest = restAt table w len
 
-    in-kind : passesIn table len rest ≡ true
-    unfolding passes kindOf
-    in-kind =
-        let k = length-in h l (omega arith) in
-        let a : (1000 * w + len) / 1000 ≡ w = omega arith in
-        let b : (1000 * w + len) % 1000 ≡ len = omega arith in
-        let each = and-right (rowsRise table) _ ok in
-        rw (a, b) at (of kinds (λ k. passesIn table (k % 1000) (restAt table (k / 1000) (k % 1000))) each (kindOf h) (kind-in h l (omega arith)))
+    passed : passesIn table len rest ≡ true
+    unfolding passes
+    passed = year-passes h l (omega arith) (λ w len. passesIn table len (restAt table w len)) (and-right (rowsRise table) _ ok)
 
     pub rows-good : eachOf table (rowGood len) ≡ true
     unfolding passesIn
-    rows-good = and-left _ _ (and-left _ _ (and-left _ _ in-kind))
+    rows-good = and-left _ _ (and-left _ _ (and-left _ _ passed))
 
     -- 1 Tishri is a rest day.
     pub new-year-rests : restDay table (newYear h) ≡ true
@@ -110,12 +104,12 @@ module _ (table : List ℕ) (ok : passes table ≡ true) where
     new-year-rests =
         let k = length-in h l (omega arith) in
         let z : newYear h + 0 ≡ newYear h = omega arith in
-        let t = and-right (eachOf table (rowGood len)) _ (and-left _ _ (and-left _ _ in-kind)) in
+        let t = and-right (eachOf table (rowGood len)) _ (and-left _ _ (and-left _ _ passed)) in
         let e : rest 0 ≡ true = rw (tishri table len 0 (omega arith), t, or-true) in rw z at (rest-placed table h l u 0 (omega arith) ∙ e)
 
     pub last-day-works : rest (len - 1) ≡ false
     unfolding passesIn
-    last-day-works = not-true _ (and-right (eachOf table (rowGood len) && elem (row 1 1) table) _ (and-left _ _ in-kind))
+    last-day-works = not-true _ (and-right (eachOf table (rowGood len) && elem (row 1 1) table) _ (and-left _ _ passed))
 
     elul-works : restDay table (newYear (h + 1) - 1) ≡ false
     unfolding yearLength
@@ -127,7 +121,7 @@ module _ (table : List ℕ) (ok : passes table ≡ true) where
     four-in-year : (x : ℕ) → x < len - 3 → four rest x ≡ false
     unfolding passesIn
     four-in-year x d =
-        let t = and-right (eachOf table (rowGood len) && elem (row 1 1) table && not (rest (len - 1))) _ in-kind in
+        let t = and-right (eachOf table (rowGood len) && elem (row 1 1) table && not (rest (len - 1))) _ passed in
         not-true _ (at 0 (len - 3) (λ x. not (four rest x)) t x (omega arith) (omega arith))
 
     rests-at : (x j : ℕ) → newYear h + x ≡ j → x < len → restDay table j ≡ true → rest x ≡ true

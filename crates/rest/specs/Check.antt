@@ -6,7 +6,7 @@ use mathlib.Core.List.{List, [], _∷_}
 use Prim.Native.Nat.{ℕ, _+_, _-_, _/_, _%_}
 use lib.Dec.{ltb}
 use Rattle.laws.specs.Runs.{every, eachOf, elem, outside}
-use Rattle.newyear.specs.Kinds.{kinds}
+use Rattle.newyear.specs.Kinds.{everyKind}
 use Rattle.hebrew.specs.Months.{monthLength}
 use Rattle.rest.specs.Table.{row}
 use Rattle.rest.specs.Steps.{restAt}
@@ -29,6 +29,5 @@ unfoldable pub passesIn : List ℕ → ℕ → (ℕ → Bool) → Bool
 passesIn table len rest =
     eachOf table (rowGood len) && elem (row 1 1) table && not (rest (len - 1)) && every 0 (len - 3) (λ x. not (four rest x))
 
--- A kind is 1,000 × weekday of New Year + length.
 unfoldable pub passes : List ℕ → Bool
-passes table = rowsRise table && eachOf kinds (λ k. passesIn table (k % 1000) (restAt table (k / 1000) (k % 1000)))
+passes table = rowsRise table && everyKind (λ w len. passesIn table len (restAt table w len))

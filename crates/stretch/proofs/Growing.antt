@@ -1,11 +1,10 @@
 -- The list of a year's runs, one day more at a time.
-use mathlib.Core.Path.{_≡_, refl}
+use mathlib.Core.Path.{_≡_}
 use mathlib.Core.Bool.{Bool, true, false, _&&_, not, cond}
 use mathlib.Core.List.{[], _∷_, _++_, append-nil}
 use Prim.Native.Nat.{ℕ, zero, suc, _+_, _-_, _≤_}
 use native.Mathlib.Numerals.{add-one}
 use native.Mathlib.Omega.{arith}
-use borrow.Author.Tests.{ltb-true}
 use lib.Dec.{ltb}
 use lib.ListN.{length, length-append}
 use Rattle.laws.specs.Search.{runStart}
@@ -39,18 +38,11 @@ module _ (rest : ℕ → Bool) where
     unfolding rowsAt
     rows-no k e = rw (add-one, e, append-nil)
 
-    -- A run takes two entries, and two days or more: its own, and one after it.
-    fewer : (k : ℕ) → length (rowsAt rest j k) ≤ runStart rest k
-    unfolding rowsAt runBefore runStart
-    fewer zero = omega arith
-    fewer (suc k) = go (rest k) (ltb 0 (k - runStart rest k)) refl (fewer k) (start-tells rest k .high)
-      where
-        go :
-            (b c : Bool) → ltb 0 (k - runStart rest k) ≡ c → length (rowsAt rest j k) ≤ runStart rest k → runStart rest k ≤ k →
-            length (rowsAt rest j k ++ cond (not b && c) ((j + k - (k - runStart rest k)) ∷ (k - runStart rest k) ∷ []) []) ≤ cond b (runStart rest k) (suc k)
-        go true c e f t = simp append-nil f
-        go false true e f t = simp length-append (omega (arith, ltb-true 0 (k - runStart rest k) e))
-        go false false e f t = simp append-nil (omega arith)
+    -- The list grows.
+    grows : (k : ℕ) → length (rowsAt rest j k) ≤ length (rowsAt rest j (suc k))
+    unfolding rowsAt
+    grows k = simp length-append (omega arith)
 
-    pub rows-short : (k : ℕ) → length (rowsAt rest j k) ≤ k
-    rows-short k = omega (arith, fewer k, start-tells rest k .high)
+    pub rows-grow : (k n : ℕ) → length (rowsAt rest j k) ≤ length (rowsAt rest j (k + n))
+    rows-grow k zero = let e : k + 0 ≡ k = omega arith in rw e (omega arith)
+    rows-grow k (suc n) = let e : k + suc n ≡ suc (k + n) = omega arith in rw e (omega (arith, rows-grow k n, grows (k + n)))

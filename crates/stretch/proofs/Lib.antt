@@ -2,6 +2,9 @@ pub mod Answered
 pub mod Answers
 pub mod Ended
 pub mod Growing
+pub mod OfKind
+pub mod Room
+pub mod SameKind
 pub mod Theorems
 pub mod Walk
 pub mod WholeList

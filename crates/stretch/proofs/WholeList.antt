@@ -21,7 +21,8 @@ use Rattle.stretch.specs.Stretches.{daysFrom, begins, rowAt, rows, stret
 use Rattle.stretch.specs.Promises.{Listed, here, there, FirstDaysRise, StretchesOf}
 use Rattle.stretch.proofs.Theorems.{ends-in-range, around}
 
-data Pairs : List ℕ → Type 0 where
+-- The entries come in pairs.
+pub data Pairs : List ℕ → Type 0 where
   none : Pairs []
   more : {a b : ℕ} {l : List ℕ} → Pairs l → Pairs (a ∷ b ∷ l)
 
@@ -38,7 +39,7 @@ in-either m none r = inr r
 in-either m (more p) here = inl here
 in-either m (more p) (there r) = ⊎-elim (λ x. inl (there x)) (λ x. inr x) (in-either m p r)
 
-both : {l m : List ℕ} → Pairs l → Pairs m → Pairs (l ++ m)
+pub both : {l m : List ℕ} → Pairs l → Pairs m → Pairs (l ++ m)
 both none q = q
 both (more p) q = more (both p q)
 
@@ -51,7 +52,7 @@ even none = refl
 even (more p) = omega (arith, even p)
 
 -- A row of the list made at one day.
-one-row : (b : Bool) (x y : ℕ) → Pairs (cond b (x ∷ y ∷ []) [])
+pub one-row : (b : Bool) (x y : ℕ) → Pairs (cond b (x ∷ y ∷ []) [])
 one-row true x y = more none
 one-row false x y = none
 

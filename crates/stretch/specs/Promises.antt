@@ -14,8 +14,10 @@ use Rattle.molad.specs.Years.{InYears, InNewYears}
 use Rattle.newyear.specs.NewYear.{newYear}
 use Rattle.rest.specs.Table.{restDay}
 use Rattle.rest.specs.Wings.{IsWing, tableOf}
+use Rattle.rest.specs.Steps.{restAt}
 use Rattle.rest.specs.declared.ListAnswer.{ListAnswer}
 use Rattle.stretch.specs.Stretches.{StretchFor, stretchRows}
+use Rattle.stretch.specs.Steps.{rowsAt}
 use Rattle.stretch.specs.declared.StretchAnswer.{StretchAnswer}
 
 -- A stretch in range ends on day j or later.
@@ -62,6 +64,25 @@ pub record StretchesOf (table : List ℕ) (h : ℕ) (list : List ℕ) : Type 0 w
   pub every : (f c : ℕ) → Run (restDay table) f c → newYear h ≤ f → f < newYear (h + 1) → Listed f c list
   pub only : (f c : ℕ) → Listed f c list → Run (restDay table) f c × ((newYear h ≤ f) × (f < newYear (h + 1)))
   pub rising : FirstDaysRise (newYear h) list
+
+-- Of each stretch its first day counted from day j, and its length.
+unfoldable pub countedFrom : ℕ → List ℕ → List ℕ
+countedFrom j [] = []
+countedFrom j (f ∷ []) = []
+countedFrom j (f ∷ c ∷ l) = (f - j) ∷ c ∷ countedFrom j l
+
+-- The stretches of a year of this length with New Year on weekday w, which are its kind, by a table; first days are counted
+-- from New Year.
+unfoldable pub rowsOfKind : List ℕ → ℕ → ℕ → List ℕ
+rowsOfKind table w len = rowsAt (restAt table w len) 0 len
+
+-- The most stretches that a year of the wing has.
+abbrev pub mostStretches : ℕ → ℕ
+mostStretches wing = cond (eqb wing 1) 60 59
+
+-- Entries enough for the stretches of any year, in either wing: the header's BD_STRETCHES_ROOM.
+abbrev pub stretchesRoom : ℕ
+stretchesRoom = 120
 
 -- What is asked for year h, and what is told of it by a table: two entries for each stretch.
 abbrev pub askedOfYear : List ℕ → ℕ → List ℕ → List Asked

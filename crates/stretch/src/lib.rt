@@ -64,8 +64,8 @@ pub fn stretch(wing: u64, day: u64) -> StretchAnswer
     }
 }
 
-// The most days that a year has. Its stretches take no more entries than it has days.
-const MOST_DAYS: usize = 385;
+// The most entries that the stretches of a year take, in either wing.
+const STRETCHES_ROOM: usize = 120;
 
 // First day and length of each stretch that begins in the year, rising, two entries each. Refusal 15 for a wing that is
 // neither 1 nor 2; 1 for a year outside 1..9999; 10 for a buffer that is too short, telling how many entries are wanted;
@@ -79,7 +79,7 @@ pub fn stretches(wing: u64, year: u64, out: &mut [u64]) -> rest::ListAnswer
     }
     let span = newyear::year_span(year);
     let weekday = days::weekday_of(span.new_year);
-    let mut rows = [0u64; MOST_DAYS];
+    let mut rows = [0u64; STRETCHES_ROOM];
     let wanted = lists::write_rows(wing, weekday, span.new_year, span.length, &mut rows);
     if out.len() < wanted {
         return rest::ListAnswer {

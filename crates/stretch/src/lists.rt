@@ -3,16 +3,18 @@ ghost use mathlib.Core.Path.{_≡_};
 ghost use Prim.Native.Nat.{_≤_};
 ghost use lib.ListN.{length as ListN·length};
 ghost use Rattle.laws.specs.Buffer.{overwrite};
-ghost use Rattle.newyear.specs.Kinds.{IsLength};
+ghost use Rattle.newyear.specs.Kinds.{IsLength, kindCode, IsKind};
 ghost use Rattle.rest.specs.Wings.{tableOf};
 ghost use Rattle.rest.specs.Steps.{restAt};
+ghost use Rattle.stretch.specs.Promises.{stretchesRoom};
 ghost use Rattle.stretch.specs.Steps.{rowsAt};
 
 // First day and length of each run of the wing's rest days of the year that begins on day `new_year`, over the start of a
-// buffer that has room for an entry a day; and how many entries they take. A run is written when it has ended.
+// buffer that has room for those of any year; and how many entries they take. A run is written when it has ended.
 pub fn write_rows(wing: u64, weekday: u64, new_year: u64, length: u64, out: &mut [u64]) -> usize
-    requires { ⌜ (weekday ≤ 7) × ((«new_year» ≤ 5000000) × ((IsLength length) × (length ≤ ListN·length (now out)))) ⌝ }
-    ensures { λ r. ⌜ (r ≡ ListN·length (rowsAt (restAt (tableOf wing) weekday length) «new_year» length)) × ((r ≤ length)
+    requires { ⌜ (weekday ≤ 7) × ((«new_year» ≤ 5000000)
+        × ((IsLength length) × ((IsKind (kindCode weekday length)) × (stretchesRoom ≤ ListN·length (now out))))) ⌝ }
+    ensures { λ r. ⌜ (r ≡ ListN·length (rowsAt (restAt (tableOf wing) weekday length) «new_year» length)) × ((r ≤ stretchesRoom)
         × (now (out .exit) ≡ overwrite (now (out .entry)) (rowsAt (restAt (tableOf wing) weekday length) «new_year» length))) ⌝ }
 {
     let mut n = 0;

@@ -9,6 +9,8 @@ use lib.Seq.{take-append-seam}
 use Rattle.laws.specs.Buffer.{overwrite}
 use Rattle.laws.proofs.Tests.{within}
 use Rattle.molad.specs.Years.{lastYear, outOfYears}
+use Rattle.newyear.specs.Kinds.{kindOf}
+use Rattle.newyear.proofs.Lengths.{kind-in}
 use Rattle.rest.specs.Wings.{outOfWings, tableOf}
 use Rattle.rest.specs.Steps.{restAt}
 use Rattle.rest.specs.Answers.{listAnswer, listBuffer}
@@ -27,6 +29,14 @@ returns c = let t = c .before in list-refused _ _ _ _ _ _ _ (t .before .list-ref
 -- Wing and year are good.
 good : (c : tie.Else1) → let a = c .before .before .before .args in (outOfWings (a .wing) ≡ false) × (outOfYears (a .year) ≡ false)
 good c = list-passed _ _ _ (c .before .list-refusal .ensures) (c .if1 .left)
+
+write-rows-requires : tie.Need-write-rows-requires
+unfolding kindOf
+write-rows-requires c κs =
+    let w = c .before in
+    let y = w .before in
+    let e = y .year-span .ensures in
+    (omega arith, (omega arith, (e .measured, (rw (w .weekday-of .ensures, e .days, e .begins) (kind-in (y .before .before .before .before .args .year) (e .first) (omega (arith, e .last))), omega arith))))
 
 -- What is worked out is the year's list.
 listed :
@@ -83,7 +93,7 @@ stretches-spec =
     (λ c κs. within 1 lastYear _ (good c .1))
     (search needs)
     (search needs)
-    (λ c κs. let e = c .before .before .year-span .ensures in let m = e .measured in (omega arith, (omega arith, (m, omega arith))))
+    write-rows-requires
     returns-2
     (search needs)
     (λ c. let w = listed (c .before .before .before) in rw (w .1) (w .0))

@@ -13,5 +13,6 @@ passes-spec =
     (search needs)
     (search needs)
     (λ c.
-    let k = c .before .before .before .before in
-    rw (c .before .kind2 .ensures, k .kind .ensures, k .before .before .before .before .new-year .ensures)))
+    let b = c .before .before in
+    let k = b .before .before .before .before in
+    rw (b .kind2 .ensures, k .kind .ensures, k .before .before .before .before .new-year .ensures)))

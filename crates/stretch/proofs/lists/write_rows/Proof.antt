@@ -3,7 +3,7 @@ use borrow.Author.Needs.{needs}
 use mathlib.Core.Path.{_≡_, refl, sym, _∙_, ap}
 use mathlib.Core.Bool.{Bool, true, false, not, _&&_}
 use mathlib.Core.Logic.{⊎-elim}
-use Prim.Native.Nat.{_≤_, _+_, _-_}
+use Prim.Native.Nat.{ℕ, _≤_, _+_, _-_}
 use native.Mathlib.Omega.{arith}
 use lib.Dec.{ltb}
 use lib.ListN.{length as count, length-append, length-set}
@@ -14,8 +14,10 @@ use Rattle.hebrew.specs.Steps.{yearDate}
 use Rattle.hebrew.proofs.Walked.{tomorrow-is}
 use Rattle.rest.specs.Wings.{tableOf}
 use Rattle.rest.specs.Steps.{restAt}
+use Rattle.stretch.specs.Promises.{stretchesRoom}
 use Rattle.stretch.specs.Steps.{runBefore, rowsAt}
-use Rattle.stretch.proofs.Growing.{ends, run-more, run-few, rows-yes, rows-no, rows-short}
+use Rattle.stretch.proofs.Growing.{ends, run-more, run-few, rows-yes, rows-no, rows-grow}
+use Rattle.stretch.proofs.OfKind.{rows-in-room}
 use Rattle.stretch.proofs.Walk.{walked-small, walked-rests}
 use Rattle.stretch.proofs.lists.write_rows.Statement.{statement}
 use Rattle.stretch.proofs.lists.write_rows.Tie as tie
@@ -57,6 +59,18 @@ ended :
     not (c .rest-on .result) && ltb 0 (l .loop .run) ≡ b → ends (restAt (tableOf (a .wing)) (a .weekday) (a .length)) (l .loop .date .after) ≡ b
 ended c b e = let l = c .before .before .before in rw (told c, ← l .loop .inv .2) e
 
+-- The runs that have ended by day k have room, as those of the whole year have.
+room-so-far :
+    (c : tie.At-loop Inv-loop μ-loop) (k : ℕ) →
+    let a = c .before .before .before .args in
+    k ≤ a .length → count (rowsAt (restAt (tableOf (a .wing)) (a .weekday) (a .length)) (a .new-year) k) ≤ stretchesRoom
+room-so-far c k p =
+    let s = c .before .before .before in
+    let a = s .args in
+    let rest = restAt (tableOf (a .wing)) (a .weekday) (a .length) in
+    let e : k + (a .length - k) ≡ a .length = omega arith in
+    omega (arith, rw e at (rows-grow rest (a .new-year) k (a .length - k)), rows-in-room (a .wing) (a .weekday) (a .length) (s .pre .1 .1 .0) (s .pre .1 .1 .1 .0) (a .new-year))
+
 -- In the arm that stores there is room for the run.
 room : (c : tie.Then2 Inv-loop μ-loop) → let l = c .before .before .before .before in l .loop .n + 2 ≤ count (l .loop .out)
 room c =
@@ -66,13 +80,13 @@ room c =
     let rest = restAt (tableOf (a .wing)) (a .weekday) (a .length) in
     let k = l .loop .date .after in
     let y = simp length-append at (ap count (rows-yes rest (a .new-year) k (ended (c .before) true (c .if2 .taken)))) in
-    omega (arith, rows-short rest (a .new-year) (k + 1), s .pre .1 .1 .1)
+    omega (arith, room-so-far l (k + 1) (omega arith), l .loop .inv .3, l .loop .inv .4, s .pre .1 .1 .1 .1)
 
-few : (c : tie.At-loop Inv-loop μ-loop) → (c .loop .run ≤ c .loop .date .after) × (c .loop .n ≤ c .loop .date .after)
+few : (c : tie.At-loop Inv-loop μ-loop) → (c .loop .run ≤ c .loop .date .after) × (c .loop .n ≤ stretchesRoom)
 few c =
     let a = c .before .before .before .args in
     let rest = restAt (tableOf (a .wing)) (a .weekday) (a .length) in
-    (omega (arith, c .loop .inv .2, run-few rest (c .loop .date .after)), omega (arith, c .loop .inv .3, rows-short rest (a .new-year) (c .loop .date .after)))
+    (omega (arith, c .loop .inv .2, run-few rest (c .loop .date .after)), omega (arith, c .loop .inv .3, room-so-far c (c .loop .date .after) (c .loop .inv .0)))
 
 next :
     (c : tie.After-next-date Inv-loop μ-loop) →
@@ -120,8 +134,7 @@ returns c =
     let l = c .before .before in
     let a = l .before .before .before .args in
     let q : l .loop .date .after ≡ a .length = omega arith in
-    let f = few l in
-    (rw q at (l .loop .inv .3), (omega arith, rw q at (l .loop .inv .5)))
+    (rw q at (l .loop .inv .3), (few l .1, rw q at (l .loop .inv .5)))
 
 pub write-rows-spec : {M : Type 1} → statement M
 write-rows-spec =
