@@ -37,8 +37,8 @@
  * was built with an earlier minor version builds and is answered as it was. A minor version adds.
  */
 #define BD_VERSION_MAJOR 3
-#define BD_VERSION_MINOR 0
-#define BD_VERSION "3.0"
+#define BD_VERSION_MINOR 1
+#define BD_VERSION "3.1"
 
 #ifdef __cplusplus
 extern "C" {
@@ -181,6 +181,25 @@ typedef struct bd_year_answer {
     uint64_t cause;
 } bd_year_answer;
 
+/*
+ * A year's kind is the weekday of its New Year and its length in days. There are fourteen, numbered by weekday and then
+ * by length; each occurs, and every year is of one of them:
+ *
+ *     Monday     1: 353    2: 355    3: 383    4: 385
+ *     Tuesday    5: 354    6: 384
+ *     Thursday   7: 354    8: 355    9: 383   10: 385
+ *     Saturday  11: 353   12: 355   13: 383   14: 385
+ *
+ * The kind alone fixes the weekday of every date of the year, and so, in either wing, how many stretches it has, their
+ * lengths, and their first days counted from New Year.
+ */
+typedef struct bd_kind_answer {
+    uint64_t refusal;
+    uint64_t kind; /* 1..14 */
+    uint64_t weekday; /* of 1 Tishri */
+    uint64_t length; /* of the year, in days */
+} bd_kind_answer;
+
 typedef struct bd_year_of_day_answer {
     uint64_t refusal;
     uint64_t year; /* Hebrew year */
@@ -200,6 +219,9 @@ bd_new_year_answer bd_new_year_rhodes(uint64_t year);
 
 /* The first day, the length and the number of months of a year; New Year's delay and its cause. Refusal: 1. */
 bd_year_answer bd_year(uint64_t year);
+
+/* The kind of a year, with the weekday and the length that make it. Refusal: 1. */
+bd_kind_answer bd_kind(uint64_t year);
 
 /* The Hebrew year that holds a day. Refusal: 4. */
 bd_year_of_day_answer bd_year_of_day(uint64_t day);
@@ -263,7 +285,11 @@ typedef struct bd_list_answer {
     uint64_t count;
 } bd_list_answer;
 
-/* Entries with room, in either wing, for the rest days of a year (8 and 13), and for the stretches of any year. */
+/*
+ * Entries with room, in either wing, for the rest days of a year (8 and 13), and for the stretches of any year. 120 is
+ * proved to be the most that a year's stretches take: up to 60 stretches in wing 1 and 59 in the guest wing, with two
+ * entries each.
+ */
 #define BD_REST_DAYS_ROOM 13
 #define BD_STRETCHES_ROOM 120
 
@@ -282,7 +308,7 @@ bd_list_answer bd_rest_days(uint64_t wing, uint64_t year, uint64_t *out, size_t 
 /*
  * Writes first day and length of each stretch of a wing that begins in a year, rising, two entries each, and tells how
  * many stretches. Refusals: 15, 1, 10. A refused call leaves the whole buffer as it was; otherwise the entries beyond
- * the list stay as they were. The call keeps 385 entries of its own, 3,080 bytes, on the stack.
+ * the list stay as they were. The call keeps 120 entries of its own, 960 bytes, on the stack.
  */
 bd_list_answer bd_stretches(uint64_t wing, uint64_t year, uint64_t *out, size_t length);
 

@@ -1,6 +1,7 @@
 /*
  * Every day of the range against a walk of this file's own: three calendars turned over day by day, a weekday counted
- * round the seven, and each wing's runs of rest days as they come.
+ * round the seven, and each wing's runs of rest days as they come. The dates and stretches of a year are held against
+ * those of the first year of its kind too.
  */
 #include "check.h"
 
@@ -35,8 +36,6 @@ static void turn_civil(civil *c)
 typedef struct {
     uint64_t year, month, day, length;
 } hebrew;
-
-static uint64_t year_length(uint64_t year) { return new_year_of(year + 1) - new_year_of(year); }
 
 /* Days of the month, 0 for a month that the year has not. */
 static uint64_t hebrew_month(const hebrew *h)
@@ -119,6 +118,34 @@ static void hebrew_day(uint64_t day, const hebrew *h)
     same("refusal of the year", year.refusal, 0), same("year of the day", year.year, h->year);
 }
 
+/* A date falls on the weekday that it has in the first year of the kind. */
+static void date_of_kind(const hebrew *h, uint64_t weekday)
+{
+    static uint64_t falls[KINDS + 1][14][31]; /* by kind, month and day */
+    uint64_t kind = kind_of(h->year), *first = &falls[kind][h->month][h->day];
+    if (h->year == first_of_kind(kind)) *first = weekday;
+    same("weekday of the date in a year of the kind", weekday, *first);
+}
+
+/* How many stretches a year has, by wing and kind. */
+static const unsigned char STRETCHES[WINGS + 1][KINDS + 1] = {
+    [BD_WING_1] = {0, 57, 56, 60, 59, 56, 59, 53, 54, 58, 60, 53, 55, 59, 58},
+    [BD_GUEST_WING] = {0, 57, 55, 59, 59, 55, 59, 51, 52, 56, 58, 53, 55, 59, 57},
+};
+
+/* A year's list is that of the first year of the kind, with the days counted from New Year. */
+static void list_of_kind(uint64_t wing, uint64_t year, const uint64_t *list, uint64_t n)
+{
+    static uint64_t firsts[WINGS + 1][KINDS + 1][BD_STRETCHES_ROOM];
+    uint64_t kind = kind_of(year), *first = firsts[wing][kind];
+    same("stretches of a year of the kind", n / 2, STRETCHES[wing][kind]);
+    for (uint64_t i = 0; i < n; ++i) {
+        uint64_t entry = i % 2 == 0 ? list[i] - new_year_of(year) : list[i];
+        if (year == first_of_kind(kind)) first[i] = entry;
+        same("entry of a year of the kind", entry, first[i]);
+    }
+}
+
 /* A year's stretches in a wing, found in the days that rest, against its list. */
 static uint64_t year_lists(uint64_t wing, uint64_t year)
 {
@@ -137,6 +164,7 @@ static uint64_t year_lists(uint64_t wing, uint64_t year)
     bd_list_answer got = bd_stretches(wing, year, out, BD_STRETCHES_ROOM);
     same("refusal", got.refusal, 0), same("count", got.count, n / 2);
     for (uint64_t i = 0; i < n; ++i) same("entry", out[i], list[i]);
+    list_of_kind(wing, year, out, n);
     wanted(bd_stretches(wing, year, NULL, 0), n);
     return n;
 }
@@ -180,6 +208,7 @@ void every_day(void)
         same("weekday", bd_weekday(day).weekday, weekday);
         civil_day(day, &julian), civil_day(day, &gregorian);
         hebrew_day(day, &h);
+        date_of_kind(&h, weekday);
         uint64_t from = kept_from(&h);
         for (uint64_t wing = 1; wing <= WINGS; ++wing) {
             rests[wing][day - FIRST] = weekday == BD_SATURDAY || from <= wing;

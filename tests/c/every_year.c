@@ -1,4 +1,7 @@
-/* Every New Year, by both routes, against a count of this file's own: months one by one, then the four delays and why. */
+/*
+ * Every New Year, by both routes, against a count of this file's own: months one by one, then the four delays and why.
+ * A year's kind is the place of its weekday and length among those that are found.
+ */
 #include "check.h"
 
 #include "walk.h"
@@ -35,6 +38,24 @@ static uint64_t months_of[YEARS + 2], begins[YEARS + 2];
 static delay delay_of[YEARS + 2];
 
 uint64_t new_year_of(uint64_t year) { return begins[year]; }
+uint64_t year_length(uint64_t year) { return begins[year + 1] - begins[year]; }
+
+/* The kind's number, at 1,000 x weekday of New Year + length; 0 where no year has them. */
+static uint64_t kind_at[8000];
+
+static uint64_t *kind_place(uint64_t year) { return &kind_at[1000 * weekday(begins[year]) + year_length(year)]; }
+
+uint64_t kind_of(uint64_t year) { return *kind_place(year); }
+
+static void number_kinds(void)
+{
+    uint64_t kinds = 0;
+    for (uint64_t year = 1; year <= YEARS; ++year) *kind_place(year) = 1;
+    for (size_t i = 0; i < COUNT(kind_at); ++i)
+        if (kind_at[i] != 0) kind_at[i] = ++kinds;
+    asking("the kinds of year");
+    same("count", kinds, KINDS);
+}
 
 static void one_year(uint64_t year, uint64_t parts)
 {
@@ -63,26 +84,61 @@ static void one_month(uint64_t year, uint64_t code, uint64_t parts)
     same("minute", notice.minute, part / 18), same("part", notice.part, part % 18);
 }
 
-/* How many of the years 1 to 10,000 have each cause, and the first of them; no year has another. */
-static void every_cause(void)
+static void length_and_kind(uint64_t year)
 {
-    static const uint64_t many[] = {3897, 1428, 3214, 1073, 332, 56, 0}, first[] = {1, 4, 2, 3, 7, 75, 0};
-    uint64_t years[COUNT(many)] = {0}, earliest[COUNT(many)] = {0};
-    for (uint64_t year = 1; year <= YEARS + 1; ++year) {
-        uint64_t cause = bd_new_year(year).cause;
-        if (cause >= COUNT(many)) cause = COUNT(many) - 1;
-        if (years[cause]++ == 0) earliest[cause] = year;
+    bd_year_answer got = bd_year(year);
+    asking("bd_year(%" PRIu64 ")", year);
+    same("refusal", got.refusal, 0);
+    same("new_year", got.new_year, begins[year]), same("weekday", got.weekday, weekday(begins[year]));
+    same("length", got.length, year_length(year)), same("months", got.months, months_of[year]);
+    same("delay", got.delay, delay_of[year].days), same("cause", got.cause, delay_of[year].cause);
+
+    bd_kind_answer kind = bd_kind(year);
+    asking("bd_kind(%" PRIu64 ")", year);
+    same("refusal", kind.refusal, 0), same("kind", kind.kind, kind_of(year));
+    same("weekday", kind.weekday, weekday(begins[year])), same("length", kind.length, year_length(year));
+}
+
+typedef struct {
+    uint64_t years, first;
+} tally;
+
+/* How many of the years 1 to 10,000 have each cause, and the first of them; the last row is for any other number. */
+static const tally BY_CAUSE[] = {{3897, 1}, {1428, 4}, {3214, 2}, {1073, 3}, {332, 7}, {56, 75}, {0, 0}};
+
+/* The same of the years 1 to 9999 and the kinds, which begin at 1. */
+static const tally BY_KIND[KINDS + 2] = {
+    {0, 0},
+    {571, 15},  {1178, 1}, {580, 8},  {472, 14},
+    {627, 4},   {524, 27},
+    {1804, 7},  {330, 23}, {388, 3},  {666, 6},
+    {433, 26},  {1373, 2}, {579, 19}, {474, 25},
+    {0, 0},
+};
+
+uint64_t first_of_kind(uint64_t kind) { return BY_KIND[kind].first; }
+
+static uint64_t cause_told(uint64_t year) { return bd_new_year(year).cause; }
+static uint64_t kind_told(uint64_t year) { return bd_kind(year).kind; }
+
+static void tallied(const char *name, uint64_t (*told)(uint64_t year), uint64_t last, const tally *want, size_t count)
+{
+    tally found[KINDS + 2] = {{0, 0}};
+    for (uint64_t year = 1; year <= last; ++year) {
+        uint64_t number = told(year);
+        tally *row = &found[number < count ? number : count - 1];
+        if (row->years++ == 0) row->first = year;
     }
-    for (uint64_t cause = 0; cause < COUNT(many); ++cause) {
-        asking("cause %" PRIu64, cause);
-        same("years", years[cause], many[cause]), same("first year", earliest[cause], first[cause]);
+    for (size_t i = 0; i < count; ++i) {
+        asking("%s %zu", name, i);
+        same("years", found[i].years, want[i].years), same("first year", found[i].first, want[i].first);
     }
 }
 
 void every_year(void)
 {
     uint64_t parts = 5 * HOUR + 204;
-    begin("every New Year by both routes, every molad and its notice");
+    begin("every New Year by both routes, every molad and its notice, every year's kind");
     for (uint64_t year = 1; year <= YEARS + 1; ++year) {
         delay_of[year] = delayed(year, 347998 + parts / DAY, parts % DAY);
         begins[year] = 347998 + parts / DAY + delay_of[year].days;
@@ -94,14 +150,9 @@ void every_year(void)
             parts += MONTH;
         }
     }
-    for (uint64_t year = 1; year <= YEARS; ++year) {
-        bd_year_answer got = bd_year(year);
-        asking("bd_year(%" PRIu64 ")", year);
-        same("refusal", got.refusal, 0);
-        same("new_year", got.new_year, begins[year]), same("weekday", got.weekday, weekday(begins[year]));
-        same("length", got.length, begins[year + 1] - begins[year]), same("months", got.months, months_of[year]);
-        same("delay", got.delay, delay_of[year].days), same("cause", got.cause, delay_of[year].cause);
-    }
-    every_cause();
+    number_kinds();
+    for (uint64_t year = 1; year <= YEARS; ++year) length_and_kind(year);
+    tallied("cause", cause_told, YEARS + 1, BY_CAUSE, COUNT(BY_CAUSE));
+    tallied("kind", kind_told, YEARS, BY_KIND, COUNT(BY_KIND));
     end();
 }

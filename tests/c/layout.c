@@ -78,6 +78,10 @@ static void large_structs(void)
     AT(bd_year_answer, new_year, 1), AT(bd_year_answer, weekday, 2), AT(bd_year_answer, length, 3);
     AT(bd_year_answer, months, 4), AT(bd_year_answer, delay, 5), AT(bd_year_answer, cause, 6);
 
+    placed(raw_kind(fresh(), 5745));
+    WORDS(bd_kind_answer, 0, 7, 5, 354);
+    AT(bd_kind_answer, kind, 1), AT(bd_kind_answer, weekday, 2), AT(bd_kind_answer, length, 3);
+
     placed(raw_day_to_hebrew(fresh(), 2452362));
     WORDS(bd_hebrew_date, 0, 5762, 8, 15, 2452171, 354, 192);
     AT(bd_hebrew_date, year, 1), AT(bd_hebrew_date, month, 2), AT(bd_hebrew_date, day, 3);
@@ -114,8 +118,8 @@ void layout(void)
     begin("sizes and offsets");
     large_structs();
     AT(bd_civil_date, refusal, 0), AT(bd_molad_answer, refusal, 0), AT(bd_notice_answer, refusal, 0);
-    AT(bd_new_year_answer, refusal, 0), AT(bd_year_answer, refusal, 0), AT(bd_hebrew_date, refusal, 0);
-    AT(bd_stretch_answer, refusal, 0);
+    AT(bd_new_year_answer, refusal, 0), AT(bd_year_answer, refusal, 0), AT(bd_kind_answer, refusal, 0);
+    AT(bd_hebrew_date, refusal, 0), AT(bd_stretch_answer, refusal, 0);
 
     uint64_t entries[BD_REST_DAYS_ROOM];
     PAIR(bd_weekday_answer, weekday, bd_weekday(2452171), 3);

@@ -60,8 +60,22 @@ static const year_row YEARS[] = {
     {9999, 3999723, 2, 3999721, 22, 1031, 353, 12, 2, 3},
 };
 
+typedef struct {
+    uint64_t year, kind, weekday, length;
+} kind_row;
+
+/* The first year of each kind, and the last year of all. */
+static const kind_row KINDS[] = {
+    {15, 1, 2, 353},  {1, 2, 2, 355},  {8, 3, 2, 383},   {14, 4, 2, 385},
+    {4, 5, 3, 354},   {27, 6, 3, 384},
+    {7, 7, 5, 354},   {23, 8, 5, 355}, {3, 9, 5, 383},   {6, 10, 5, 385},
+    {26, 11, 7, 353}, {2, 12, 7, 355}, {19, 13, 7, 383}, {25, 14, 7, 385},
+    {9999, 1, 2, 353},
+};
+
 static const year_row NEXT = {10000, 4000076, 5, 4000076, 7, 827, 0, 0, 0, BD_CAUSE_NONE};
 static const year_row NONE = {0, 0, 0, 0, 0, 0, 0, 0, 0, 0};
+static const kind_row NO_KIND = {0, 0, 0, 0};
 static const molad_row NO_MOLAD = {0, 0, 0, 0, 0, 0, 0, 0, 0};
 
 static const uint64_t BAD_YEARS[] = {0, 10001, UINT64_C(1) << 32, (UINT64_C(1) << 32) + 5762, UINT64_MAX};
@@ -107,6 +121,14 @@ static void whole_year(uint64_t year, uint64_t refusal, const year_row *want)
     same("delay", got.delay, want->delay), same("cause", got.cause, want->cause);
 }
 
+static void kind(uint64_t year, uint64_t refusal, const kind_row *want)
+{
+    bd_kind_answer got = bd_kind(year);
+    asking("bd_kind(%" PRIu64 ")", year);
+    same("refusal", got.refusal, refusal), same("kind", got.kind, want->kind);
+    same("weekday", got.weekday, want->weekday), same("length", got.length, want->length);
+}
+
 static void year_of_day(uint64_t day, uint64_t refusal, uint64_t want)
 {
     bd_year_of_day_answer got = bd_year_of_day(day);
@@ -125,12 +147,15 @@ void new_years(void)
         year_of_day(y->day, 0, y->year);
         year_of_day(y->day + y->length - 1, 0, y->year);
     }
+    for (const kind_row *k = KINDS; k < KINDS + COUNT(KINDS); ++k) kind(k->year, 0, k);
     both_routes(10000, 0, &NEXT);
     whole_year(10000, BD_BAD_YEAR, &NONE);
+    kind(10000, BD_BAD_YEAR, &NO_KIND);
     molad(10000, 1, BD_BAD_YEAR, &NO_MOLAD);
     for (size_t i = 0; i < COUNT(BAD_YEARS); ++i) {
         both_routes(BAD_YEARS[i], BD_BAD_YEAR, &NONE);
         whole_year(BAD_YEARS[i], BD_BAD_YEAR, &NONE);
+        kind(BAD_YEARS[i], BD_BAD_YEAR, &NO_KIND);
         molad(BAD_YEARS[i], 1, BD_BAD_YEAR, &NO_MOLAD);
         molad(BAD_YEARS[i], 14, BD_BAD_YEAR, &NO_MOLAD);
     }

@@ -4,10 +4,15 @@
 
 #include <stdint.h>
 
-enum { YEARS = 9999 };
+enum { YEARS = 9999, KINDS = 14 };
 
 int leap(uint64_t year);
 /* 1 to 10,000. */
 uint64_t new_year_of(uint64_t year);
+/* 1 to 9999. */
+uint64_t year_length(uint64_t year);
+uint64_t kind_of(uint64_t year);
+/* The first year of a kind. */
+uint64_t first_of_kind(uint64_t kind);
 
 #endif

@@ -1,6 +1,8 @@
 //! The archive called from Rust, against a calendar of this file's own: months counted one by one, the four delays, and
 //! dates found by walking a year's months.
 
+use std::collections::BTreeSet;
+
 #[repr(C)]
 struct NewYear {
     refusal: u64,
@@ -11,6 +13,14 @@ struct NewYear {
     molad_part: u64,
     delay: u64,
     cause: u64,
+}
+
+#[repr(C)]
+struct Kind {
+    refusal: u64,
+    kind: u64,
+    weekday: u64,
+    length: u64,
 }
 
 #[repr(C)]
@@ -41,6 +51,7 @@ struct Stretch {
 extern "C" {
     fn bd_new_year(year: u64) -> NewYear;
     fn bd_new_year_rhodes(year: u64) -> NewYear;
+    fn bd_kind(year: u64) -> Kind;
     fn bd_day_to_hebrew(day: u64) -> HebrewDate;
     fn bd_hebrew_to_day(year: u64, month: u64, day: u64) -> Pair;
     fn bd_month_length(year: u64, month: u64) -> Pair;
@@ -148,6 +159,25 @@ fn new_years(years: &[Begins]) -> u64 {
     2 * years.len() as u64
 }
 
+/// Every year's kind: the place of its weekday and length among those that years have, in rising order; returns how
+/// many kinds there are.
+fn kinds(years: &[Begins]) -> usize {
+    let weekday_and_length = |pair: &[Begins]| (weekday(pair[0].day), pair[1].day - pair[0].day);
+    let kinds: BTreeSet<(u64, u64)> = years.windows(2).map(weekday_and_length).collect();
+    for (year, pair) in (1u64..).zip(years.windows(2)) {
+        let want = weekday_and_length(pair);
+        let kind = kinds.range(..=want).count() as u64;
+        let got = unsafe { bd_kind(year) };
+        assert_eq!((got.refusal, got.kind, (got.weekday, got.length)), (0, kind, want), "kind of {year}");
+    }
+    for year in [0, 10_000, 1 << 32 | 5762, u64::MAX] {
+        let got = unsafe { bd_kind(year) };
+        assert_eq!((got.refusal, got.kind, got.weekday, got.length), (1, 0, 0, 0), "kind of {year}");
+    }
+    assert_eq!(kinds.len(), 14, "kinds of year");
+    kinds.len()
+}
+
 /// The first wing in which a day rests, if it does in one.
 fn rests_from(day: u64, month: u64, date: u64) -> Option<u64> {
     if weekday(day) == 7 {
@@ -220,6 +250,7 @@ fn bad_wings() {
 fn main() {
     let years = count_years();
     println!("Rust calls: every New Year: {} answers", new_years(&years));
+    println!("Rust calls: every year's kind: {} kinds", kinds(&years));
     let mut days = 0;
     for (year, pair) in (1u64..).zip(years.windows(2)) {
         let (new_year, next) = (pair[0].day, pair[1].day);
