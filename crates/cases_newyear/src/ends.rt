@@ -14,7 +14,6 @@ fn molads(year: u64) {
 fn every_call(year: u64) {
     lines::new_year(year);
     lines::year(year);
-    lines::kind(year);
     molads(year);
 }
 

@@ -42,18 +42,6 @@ pub fn year(year: u64) {
     end();
 }
 
-pub fn kind(year: u64) {
-    let answer = newyear::kind(year);
-    text(b"kind");
-    number(year);
-    text(b" ->");
-    number(answer.refusal);
-    number(answer.kind);
-    number(answer.weekday);
-    number(answer.length);
-    end();
-}
-
 pub fn year_of_day(day: u64) {
     let answer = newyear::year_of_day(day);
     text(b"year of day");

@@ -1,9 +1,6 @@
-// Molads, New Years, years, their kinds and the years of days, one line for each: what is asked, `->`, and every number of
-// the answer.
-mod counts;
+// Molads, New Years, years and the years of days, one line for each: what is asked, `->`, and every number of the answer.
 mod document;
 mod ends;
-mod kinds;
 mod limits;
 mod lines;
 mod months;
@@ -15,7 +12,6 @@ fn main() {
     sources::rows();
     months::rows();
     limits::rows();
-    kinds::rows();
     ends::rows();
     sums::rows();
 }

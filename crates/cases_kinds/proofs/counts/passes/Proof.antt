@@ -1,7 +1,7 @@
 use borrow.Author.Needs.{needs}
-use Rattle.cases_newyear.specs.Counts.{passes}
-use Rattle.cases_newyear.proofs.counts.passes.Statement.{statement}
-use Rattle.cases_newyear.proofs.counts.passes.Tie as tie
+use Rattle.cases_kinds.specs.Counts.{passes}
+use Rattle.cases_kinds.proofs.counts.passes.Statement.{statement}
+use Rattle.cases_kinds.proofs.counts.passes.Tie as tie
 
 pub passes-spec : {M : Type 1} → statement M
 unfolding passes

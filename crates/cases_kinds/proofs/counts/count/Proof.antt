@@ -5,10 +5,10 @@ use mathlib.Core.Logic.{⊎-elim}
 use Prim.Native.Nat.{_≤_, _<_, _-_}
 use native.Mathlib.Omega.{arith}
 use Rattle.molad.specs.Years.{lastYear}
-use Rattle.cases_newyear.specs.Counts.{passing}
-use Rattle.cases_newyear.proofs.Counting.{none-yet, one-more}
-use Rattle.cases_newyear.proofs.counts.count.Statement.{statement}
-use Rattle.cases_newyear.proofs.counts.count.Tie as tie
+use Rattle.cases_kinds.specs.Counts.{passing}
+use Rattle.cases_kinds.proofs.Counting.{none-yet, one-more}
+use Rattle.cases_kinds.proofs.counts.count.Statement.{statement}
+use Rattle.cases_kinds.proofs.counts.count.Tie as tie
 
 abbrev Inv-loop : tie.InvT-loop
 Inv-loop asked passed₀ year₀ passed year = ((1 ≤ year) × (year ≤ 10000)) × ((passed < year) × (passed ≡ passing asked (year - 1)))

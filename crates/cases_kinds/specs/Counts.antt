@@ -3,7 +3,7 @@ use mathlib.Core.Bool.{Bool, _&&_, _||_, cond}
 use Prim.Native.Nat.{ℕ, zero, suc, _+_, _-_}
 use lib.Dec.{eqb}
 use Rattle.newyear.specs.Answers.{newYearAnswer, kindAnswer}
-use Rattle.cases_newyear.specs.declared.counts.Asked.{Asked}
+use Rattle.cases_kinds.specs.declared.counts.Asked.{Asked}
 
 -- 0 asks for any kind, and 6 for any cause.
 unfoldable pub passes : Asked → ℕ → Bool

@@ -1,16 +1,16 @@
 use borrow.Author.Needs.{needs}
 use Prim.Native.Nat.{_≤_, _-_}
-use Rattle.cases_newyear.proofs.kinds.numbers.Statement.{statement}
-use Rattle.cases_newyear.proofs.kinds.numbers.Tie as tie
+use Rattle.cases_kinds.proofs.first_years.Statement.{statement}
+use Rattle.cases_kinds.proofs.first_years.Tie as tie
 
 abbrev Inv-loop : tie.InvT-loop
-Inv-loop kind₀ kind = kind ≤ 16
+Inv-loop year₀ year = year ≤ 28
 
 abbrev μ-loop : tie.MeasureT-loop
-μ-loop kind₀ kind = 16 - kind
+μ-loop year₀ year = 28 - year
 
-pub numbers-spec : {M : Type 1} → statement M
-numbers-spec =
+pub first-years-spec : {M : Type 1} → statement M
+first-years-spec =
     tie.close
     (tie.spec
     Inv-loop

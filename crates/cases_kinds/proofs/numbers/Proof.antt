@@ -1,16 +1,16 @@
 use borrow.Author.Needs.{needs}
 use Prim.Native.Nat.{_≤_, _-_}
-use Rattle.cases_newyear.proofs.kinds.first_years.Statement.{statement}
-use Rattle.cases_newyear.proofs.kinds.first_years.Tie as tie
+use Rattle.cases_kinds.proofs.numbers.Statement.{statement}
+use Rattle.cases_kinds.proofs.numbers.Tie as tie
 
 abbrev Inv-loop : tie.InvT-loop
-Inv-loop year₀ year = year ≤ 28
+Inv-loop kind₀ kind = kind ≤ 16
 
 abbrev μ-loop : tie.MeasureT-loop
-μ-loop year₀ year = 28 - year
+μ-loop kind₀ kind = 16 - kind
 
-pub first-years-spec : {M : Type 1} → statement M
-first-years-spec =
+pub numbers-spec : {M : Type 1} → statement M
+numbers-spec =
     tie.close
     (tie.spec
     Inv-loop

@@ -3,8 +3,8 @@ use molad::LAST_YEAR;
 ghost use mathlib.Core.Path.{_≡_};
 ghost use Prim.Native.Nat.{_≤_};
 ghost use Rattle.molad.specs.Years.{lastYear};
-ghost use Rattle.cases_newyear.specs.Counts.{passing};
-ghost use Rattle.cases_newyear.specs.Counts.{passes as Counts·passes};
+ghost use Rattle.cases_kinds.specs.Counts.{passing};
+ghost use Rattle.cases_kinds.specs.Counts.{passes as Counts·passes};
 
 // No cause has this number.
 pub const ANY_CAUSE: u64 = 6;

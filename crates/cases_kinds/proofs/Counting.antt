@@ -3,8 +3,8 @@ use mathlib.Core.Path.{_≡_, refl}
 use mathlib.Core.Bool.{cond}
 use Prim.Native.Nat.{ℕ, suc, _+_, _-_, _≤_}
 use native.Mathlib.Omega.{arith}
-use Rattle.cases_newyear.specs.Counts.{passes, passing}
-use Rattle.cases_newyear.specs.declared.counts.Asked.{Asked}
+use Rattle.cases_kinds.specs.Counts.{passes, passing}
+use Rattle.cases_kinds.specs.declared.counts.Asked.{Asked}
 
 pub none-yet : (asked : Asked) → passing asked 0 ≡ 0
 unfolding passing
