@@ -36,9 +36,9 @@
  * Within a major version no call, struct, field, number or answer that stands here changes or goes, and a program that
  * was built with an earlier minor version builds and is answered as it was. A minor version adds.
  */
-#define BD_VERSION_MAJOR 3
-#define BD_VERSION_MINOR 1
-#define BD_VERSION "3.1"
+#define BD_VERSION_MAJOR 4
+#define BD_VERSION_MINOR 0
+#define BD_VERSION "4.0"
 
 #ifdef __cplusplus
 extern "C" {
@@ -153,7 +153,7 @@ typedef struct bd_molad_answer {
 
 typedef struct bd_notice_answer {
     uint64_t refusal;
-    uint64_t day; /* day number of the molad's own Hebrew day */
+    uint64_t day; /* day number of the civil day on which the clock stands */
     uint64_t weekday; /* of that day */
     uint64_t hour; /* 0..23 on the clock, counted from midnight */
     uint64_t minute; /* 0..59 */
@@ -208,7 +208,12 @@ typedef struct bd_year_of_day_answer {
 /* The molad of a month. Refusals: 1, 2. */
 bd_molad_answer bd_molad(uint64_t year, uint64_t month);
 
-/* What the molad notice shows for a month: the molad on the clock, beside its own Hebrew day. Refusals: 1, 2. */
+/*
+ * What the molad notice shows for a month: the molad on the clock, and the civil day on which the clock stands. A molad in
+ * the first six hours of its Hebrew day, from 18:00 to midnight, is shown on the civil day before. For Tishri of year 1
+ * that is 347,997, the only day shown outside BD_FIRST_DAY..BD_LAST_DAY: every call that takes a day refuses it. Its
+ * Gregorian date is -3760-09-06. Refusals: 1, 2.
+ */
 bd_notice_answer bd_notice(uint64_t year, uint64_t month);
 
 /* The day on which a year begins, 1..10,000; the molad of its Tishri; how long after that, and why. Refusal: 1. */

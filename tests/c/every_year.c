@@ -77,11 +77,15 @@ static void one_month(uint64_t year, uint64_t code, uint64_t parts)
     asking("bd_molad(%" PRIu64 ", %" PRIu64 ")", year, code);
     same("refusal", molad.refusal, 0), same("day", molad.day, day);
     same("hour", molad.hour, hour), same("part", molad.part, part);
+
+    /* the same instant, in parts from the midnight of day 0: six hours less than from 18:00 the evening before */
+    uint64_t civil = 347998 * DAY + parts - 6 * HOUR, shown = civil / DAY;
     bd_notice_answer notice = bd_notice(year, code);
     asking("bd_notice(%" PRIu64 ", %" PRIu64 ")", year, code);
-    same("refusal", notice.refusal, 0), same("day", notice.day, day), same("weekday", notice.weekday, weekday(day));
-    same("hour", notice.hour, hour < 6 ? hour + 18 : hour - 6);
-    same("minute", notice.minute, part / 18), same("part", notice.part, part % 18);
+    same("refusal", notice.refusal, 0), same("day", notice.day, shown), same("weekday", notice.weekday, weekday(shown));
+    same("hour", notice.hour, civil % DAY / HOUR), same("minute", notice.minute, civil % HOUR / 18);
+    same("part", notice.part, civil % 18);
+    same("day in range", bd_weekday(notice.day).refusal == 0, !(year == 1 && code == BD_TISHRI));
 }
 
 static void length_and_kind(uint64_t year)

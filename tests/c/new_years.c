@@ -2,28 +2,29 @@
 #include "check.h"
 
 typedef struct {
-    uint64_t year, month, day, hour, part, weekday, clock_hour, minute, over;
+    uint64_t year, month, day, hour, part, shown, weekday, clock_hour, minute, over;
 } molad_row;
 
+/* A molad, then its notice. Those at the hours 0 to 5 are shown on the civil evening before. */
 static const molad_row MOLADS[] = {
-    {1, 1, 347998, 5, 204, 2, 23, 11, 6},
-    {1, 2, 348027, 17, 997, 3, 11, 55, 7},
-    {2, 1, 348352, 14, 0, 6, 8, 0, 0},
-    {3, 6, 348854, 14, 521, 4, 8, 28, 17},
-    {3, 7, 348884, 3, 234, 6, 21, 13, 0},
-    {3247, 1, 1533562, 23, 535, 4, 17, 29, 13},
-    {5762, 1, 2452171, 4, 106, 3, 22, 5, 16},
-    {5762, 5, 2452289, 7, 38, 2, 1, 2, 2},
-    {5762, 7, 2452318, 19, 831, 3, 13, 46, 3},
-    {5762, 13, 2452496, 0, 189, 6, 18, 10, 9},
-    {5763, 6, 2452673, 4, 627, 1, 22, 34, 15},
-    {5763, 7, 2452702, 17, 340, 2, 11, 18, 16},
-    {5763, 8, 2452732, 6, 53, 4, 0, 2, 17},
-    {5775, 1, 2456925, 14, 339, 4, 8, 18, 15},
-    {5784, 6, 2460351, 3, 527, 7, 21, 29, 5},
-    {5784, 13, 2460557, 20, 678, 3, 14, 37, 12},
-    {9999, 1, 3999721, 22, 1031, 7, 16, 57, 5},
-    {9999, 13, 4000046, 19, 34, 3, 13, 1, 16},
+    {1, 1, 347998, 5, 204, 347997, 1, 23, 11, 6},
+    {1, 2, 348027, 17, 997, 348027, 3, 11, 55, 7},
+    {2, 1, 348352, 14, 0, 348352, 6, 8, 0, 0},
+    {3, 6, 348854, 14, 521, 348854, 4, 8, 28, 17},
+    {3, 7, 348884, 3, 234, 348883, 5, 21, 13, 0},
+    {3247, 1, 1533562, 23, 535, 1533562, 4, 17, 29, 13},
+    {5762, 1, 2452171, 4, 106, 2452170, 2, 22, 5, 16},
+    {5762, 5, 2452289, 7, 38, 2452289, 2, 1, 2, 2},
+    {5762, 7, 2452318, 19, 831, 2452318, 3, 13, 46, 3},
+    {5762, 13, 2452496, 0, 189, 2452495, 5, 18, 10, 9},
+    {5763, 6, 2452673, 4, 627, 2452672, 7, 22, 34, 15},
+    {5763, 7, 2452702, 17, 340, 2452702, 2, 11, 18, 16},
+    {5763, 8, 2452732, 6, 53, 2452732, 4, 0, 2, 17},
+    {5775, 1, 2456925, 14, 339, 2456925, 4, 8, 18, 15},
+    {5784, 6, 2460351, 3, 527, 2460350, 6, 21, 29, 5},
+    {5784, 13, 2460557, 20, 678, 2460557, 3, 14, 37, 12},
+    {9999, 1, 3999721, 22, 1031, 3999721, 7, 16, 57, 5},
+    {9999, 13, 4000046, 19, 34, 4000046, 3, 13, 1, 16},
 };
 
 typedef struct {
@@ -76,7 +77,7 @@ static const kind_row KINDS[] = {
 static const year_row NEXT = {10000, 4000076, 5, 4000076, 7, 827, 0, 0, 0, BD_CAUSE_NONE};
 static const year_row NONE = {0, 0, 0, 0, 0, 0, 0, 0, 0, 0};
 static const kind_row NO_KIND = {0, 0, 0, 0};
-static const molad_row NO_MOLAD = {0, 0, 0, 0, 0, 0, 0, 0, 0};
+static const molad_row NO_MOLAD = {0, 0, 0, 0, 0, 0, 0, 0, 0, 0};
 
 static const uint64_t BAD_YEARS[] = {0, 10001, UINT64_C(1) << 32, (UINT64_C(1) << 32) + 5762, UINT64_MAX};
 
@@ -90,7 +91,7 @@ static void molad(uint64_t year, uint64_t month, uint64_t refusal, const molad_r
     bd_notice_answer notice = bd_notice(year, month);
     asking("bd_notice(%" PRIu64 ", %" PRIu64 ")", year, month);
     same("refusal", notice.refusal, refusal);
-    same("day", notice.day, want->day), same("weekday", notice.weekday, want->weekday);
+    same("day", notice.day, want->shown), same("weekday", notice.weekday, want->weekday);
     same("hour", notice.hour, want->clock_hour), same("minute", notice.minute, want->minute);
     same("part", notice.part, want->over);
 }

@@ -16,6 +16,16 @@ struct NewYear {
 }
 
 #[repr(C)]
+struct Notice {
+    refusal: u64,
+    day: u64,
+    weekday: u64,
+    hour: u64,
+    minute: u64,
+    part: u64,
+}
+
+#[repr(C)]
 struct Kind {
     refusal: u64,
     kind: u64,
@@ -51,6 +61,7 @@ struct Stretch {
 extern "C" {
     fn bd_new_year(year: u64) -> NewYear;
     fn bd_new_year_rhodes(year: u64) -> NewYear;
+    fn bd_notice(year: u64, month: u64) -> Notice;
     fn bd_kind(year: u64) -> Kind;
     fn bd_day_to_hebrew(day: u64) -> HebrewDate;
     fn bd_hebrew_to_day(year: u64, month: u64, day: u64) -> Pair;
@@ -159,6 +170,29 @@ fn new_years(years: &[Begins]) -> u64 {
     2 * years.len() as u64
 }
 
+/// Every month's notice, from the molad's parts since midnight; returns how many were asked.
+fn notices(years: &[Begins]) -> u64 {
+    let mut asked = 0;
+    for (year, pair) in (1u64..).zip(years.windows(2)) {
+        let molads = (pair[0].molad..).step_by(MONTH as usize);
+        for ((month, _), molad) in months(year, pair[1].day - pair[0].day).into_iter().zip(molads) {
+            let parts = FIRST_DAY * DAY + molad - 6 * HOUR;
+            let (day, clock) = (parts / DAY, parts % DAY);
+            let want = (0, day, weekday(day), clock / HOUR, clock % HOUR / 18, clock % 18);
+            let got = unsafe { bd_notice(year, month) };
+            let got = (got.refusal, got.day, got.weekday, got.hour, got.minute, got.part);
+            assert_eq!(got, want, "notice of {year} {month}");
+            asked += 1;
+        }
+    }
+    for (year, month, refusal) in [(0, 1, 1), (10_000, 0, 1), (5762, 6, 2), (5763, 14, 2), (1, u64::MAX, 2)] {
+        let got = unsafe { bd_notice(year, month) };
+        let got = (got.refusal, got.day, got.weekday, got.hour, got.minute, got.part);
+        assert_eq!(got, (refusal, 0, 0, 0, 0, 0), "notice of {year} {month}");
+    }
+    asked
+}
+
 /// Every year's kind: the place of its weekday and length among those that years have, in rising order; returns how
 /// many kinds there are.
 fn kinds(years: &[Begins]) -> usize {
@@ -250,6 +284,7 @@ fn bad_wings() {
 fn main() {
     let years = count_years();
     println!("Rust calls: every New Year: {} answers", new_years(&years));
+    println!("Rust calls: every month's notice: {} answers", notices(&years));
     println!("Rust calls: every year's kind: {} kinds", kinds(&years));
     let mut days = 0;
     for (year, pair) in (1u64..).zip(years.windows(2)) {

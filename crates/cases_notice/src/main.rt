@@ -1,5 +1,5 @@
-// The molad notice, one line for each month: what is asked, `->`, the refusal, the day, its weekday, and the clock's hour,
-// minute and parts.
+// The molad notice, one line for each month: what is asked, `->`, the refusal, the day shown, its weekday, and the clock's
+// hour, minute and parts.
 use show::end;
 use show::number;
 use show::text;
@@ -19,7 +19,7 @@ fn ask(year: u64, month: u64) {
     end();
 }
 
-// The first molad, that of Tishri 5762, and the last month covered.
+// The first molad, a Sunday's on the clock (source 001), the warden's of Tishri 5762, and the last year's last and first.
 fn first_and_last() {
     ask(1, 1);
     ask(5762, 1);
@@ -27,8 +27,8 @@ fn first_and_last() {
     ask(9999, 1);
 }
 
-// Source 000, clock readings 2.1, 2.3, 2.4 and 2.5: Wednesday 3h 191p, Friday 7h 8p, Saturday 22h 5p (which is
-// Sunday's here) and Monday 13h 871p, at molads that fall so.
+// Source 000, clock readings 2.1, 2.3, 2.4 and 2.5: Wednesday 3h 191p, Friday 7h 8p, Saturday 22h 5p and Monday
+// 13h 871p, at molads that fall so.
 fn clock_readings() {
     ask(1810, 7);
     ask(8204, 12);
@@ -36,7 +36,7 @@ fn clock_readings() {
     ask(7395, 9);
 }
 
-// Sources 000, 003 and 004: the molads that they print on the clock, from midnight.
+// Sources 000, 003 and 004: the molads that they print on the clock, from midnight, with the weekday that they print.
 fn sources() {
     ask(5741, 1);
     ask(3758, 1);

@@ -31,12 +31,16 @@ PromisedDay cal LeapYear y m d =
     (λ r. r .day ≡ dayOf cal (raised y) m d)
     (λ n r. r .day ≡ 0)
 
--- From a day to its date: the date answered has that day, and is good.
+-- The date answered has day j, and is good.
+abbrev pub IsDateOf : Calendar → (ℤ → Type 0) → ℕ → CivilDate → Type 0
+IsDateOf cal LeapYear j r =
+    (dayOf cal (raised (r .year)) (r .month) (r .day) ≡ j)
+    × (InCivilYears (r .year) × (IsCivilMonth (r .month) × InCivilMonth (LeapYear (r .year)) (r .month) (r .day)))
+
+-- From a day to its date.
 abbrev pub PromisedDate : Calendar → (ℤ → Type 0) → ℕ → CivilDate → Type 0
 PromisedDate cal LeapYear j =
     Promised (λ (r : CivilDate). r .refusal)
     (InRange j else 4 ∷ [])
-    (λ r.
-    (dayOf cal (raised (r .year)) (r .month) (r .day) ≡ j)
-    × (InCivilYears (r .year) × (IsCivilMonth (r .month) × InCivilMonth (LeapYear (r .year)) (r .month) (r .day))))
+    (IsDateOf cal LeapYear j)
     (λ n r. (r .year ≡ pos 0) × ((r .month ≡ 0) × (r .day ≡ 0)))

@@ -8,7 +8,7 @@ use native.Mathlib.Omega.{arith}
 use native.Mathlib.Decide.{decLe}
 use borrow.Author.Tests.{le-ltb}
 use Rattle.laws.specs.Runs.{outside}
-use Rattle.laws.specs.Promise.{Asked, FirstUnmet, Unmet, Rising, Promised, Smallest, SmallestAfter}
+use Rattle.laws.specs.Promise.{Asked, _else_, FirstUnmet, Unmet, Rising, Promised, Smallest, SmallestAfter}
 use Rattle.laws.proofs.Tests.{within}
 
 -- A test that catches what is not met.
@@ -79,6 +79,22 @@ module _ {A : Type 0} {number : A → ℕ} {Values : A → Type 0} {Besides : �
       1 ≤ a .refusal → number x ≡ a .refusal → Besides (a .refusal) x →
       (a .met → Promised number asked Values Besides r) → Promised number (a ∷ asked) Values Besides (cond test x r)
   asks {r} {test} x t = by-test x r test (t .passes) (t .catches)
+
+-- The one thing that is asked may be said in other words.
+pub restated :
+    {A M N : Type 0} {k : ℕ} {number : A → ℕ} {Values : A → Type 0} {Besides : ℕ → A → Type 0} {r : A} → (M → N) → (N → M) →
+    Promised number (M else k ∷ []) Values Besides r → Promised number (N else k ∷ []) Values Besides r
+restated f g p =
+    record {
+      done = (λ z. (f (p .done .0 z .0), tt), λ m. p .done .1 (g (m .0), tt));
+      values = λ m. p .values (g (m .0), tt);
+      refused =
+          λ n l. (
+            λ e. ⊎-elim (λ u. inl ((λ m. u .0 (g m)), u .1)) (λ u. absurd (u .1)) (p .refused n l .0 e),
+            ⊎-elim (λ u. p .refused n l .1 (inl ((λ m. u .0 (f m)), u .1))) (λ u. absurd (u .1)),
+          );
+      besides = λ n. ⊎-elim (λ u. p .besides n (inl ((λ m. u .0 (f m)), u .1))) (λ u. absurd (u .1));
+    }
 
 -- Where the numbers rise the first that is not met is the smallest.
 not-below : (asked : List Asked) (m n : ℕ) → Rising m asked → Unmet asked n → m ≤ n

@@ -1,2 +1,4 @@
+pub mod Days
 pub mod Told
 pub mod Answers
+pub mod Theorems

@@ -1,17 +1,17 @@
 -- What an answer of `molad` tells: by its number, and of the day.
 use mathlib.Core.Path.{_≡_, refl}
 use mathlib.Core.Bool.{Bool, true, false, cond}
-use Prim.Native.Nat.{ℕ, _+_, _/_, _%_, _≤_}
+use Prim.Native.Nat.{ℕ, _/_, _%_, _≤_}
 use native.Mathlib.Omega.{arith}
 use Rattle.molad.specs.Units.{partsInHour}
-use Rattle.molad.specs.Years.{InYears, outOfYears, leap, monthsBefore}
-use Rattle.molad.specs.Molad.{IsMonth, noMonth, monthsOfYearBefore, moladParts, moladDay, moladTime}
+use Rattle.molad.specs.Years.{outOfYears, leap}
+use Rattle.molad.specs.Molad.{noMonth, moladDay, moladTime}
 use Rattle.molad.specs.Answers.{noMolad, moladOn, moladAnswer}
 use Rattle.molad.specs.declared.MoladAnswer.{MoladAnswer}
 use Rattle.molad.proofs.Answers.{molad-promised}
-use Rattle.molad.proofs.Closed.{months-closed, months-of-year, molad-day}
-use Rattle.notice.specs.Answers.{noNotice, noticeOf, noticeAnswer}
+use Rattle.notice.specs.Answers.{noNotice, noticeAt, noticeAnswer}
 use Rattle.notice.specs.declared.NoticeAnswer.{NoticeAnswer}
+use Rattle.notice.proofs.Days.{from-first-day, day-near}
 
 -- A molad that is refused is a notice refused with the same number; one that is given is a notice given.
 alike :
@@ -23,15 +23,10 @@ alike true b m x z = (λ _. refl, λ e. absurd (omega arith))
 alike false true m x z = (λ _. refl, λ e. absurd (omega arith))
 alike false false m x z = (λ n. absurd (n z), λ _. refl)
 
--- The molad of a month of the years 1 to 9999 falls on a day whose weekday can be asked.
-day-near : (h code : ℕ) → InYears h → IsMonth (leap h) code → moladDay h code ≤ 4001400
-unfolding moladDay moladParts
-day-near h code y m =
-    omega (arith, months-closed h (y .0), months-of-year (leap h) code (m .0 .0) (m .0 .1), molad-day (monthsBefore h + monthsOfYearBefore (leap h) code))
-
 pub record Given (h code : ℕ) (r : MoladAnswer) : Type 0 where
-  pub notice : noticeOf (moladDay h code) (moladTime h code) ≡ noticeAnswer h code
+  pub notice : noticeAt (moladDay h code) (moladTime h code / partsInHour) (moladTime h code % partsInHour) ≡ noticeAnswer h code
   pub day : r .day ≡ moladDay h code
+  pub later : 1 ≤ r .day
   pub near : r .day ≤ 4001400
   pub hour : r .hour ≡ moladTime h code / partsInHour
   pub early : r .hour ≤ 23
@@ -49,11 +44,11 @@ module _ (h code : ℕ) (r : MoladAnswer) (e : r ≡ moladAnswer h code) where
       let m = p .done .0 (rw e at z) in
       let v = p .values m in
       let d : r .day ≡ moladDay h code = rw e (v .0 .0) in
-      let n = day-near h code (m .0) (m .1 .0) in
       record {
         notice = alike (outOfYears h) (noMonth (leap h) code) (moladOn h code) _ refl .1 (rw e at z);
         day = d;
-        near = omega arith;
+        later = omega (arith, from-first-day h code);
+        near = omega (arith, day-near h code (m .0) (m .1 .0));
         hour = rw e (v .0 .1 .0);
         early = rw e (v .1 .0);
         part = rw e (v .0 .1 .1);

@@ -5,22 +5,22 @@ use Rattle.days.specs.Weekday.{weekday}
 use Rattle.molad.specs.Units.{partsInHour}
 use Rattle.molad.specs.Years.{outOfYears, leap}
 use Rattle.molad.specs.Molad.{noMonth, moladDay, moladTime}
-use Rattle.notice.specs.Clock.{clockHour, minutes, partsOver}
+use Rattle.notice.specs.Clock.{shownDay, clockHour, minutes, partsOver}
 use Rattle.notice.specs.declared.NoticeAnswer.{NoticeAnswer}
 
 abbrev pub noNotice : ℕ → NoticeAnswer
 noNotice n = record { refusal = n; day = 0; weekday = 0; hour = 0; minute = 0; part = 0 }
 
--- The notice of a molad on day j at time t, in parts. The day is the molad's own Hebrew day.
-abbrev pub noticeOf : ℕ → ℕ → NoticeAnswer
-noticeOf j t =
+-- The notice of a molad on Hebrew day j at an hour and a part of it. The weekday is that of the day shown.
+abbrev pub noticeAt : ℕ → ℕ → ℕ → NoticeAnswer
+noticeAt j hour part =
     record {
       refusal = 0;
-      day = j;
-      weekday = weekday j;
-      hour = clockHour (t / partsInHour);
-      minute = minutes (t % partsInHour);
-      part = partsOver (t % partsInHour);
+      day = shownDay j hour;
+      weekday = weekday (shownDay j hour);
+      hour = clockHour hour;
+      minute = minutes part;
+      part = partsOver part;
     }
 
 -- Refusal 1: the year lies outside 1..9999. 2: the code lies outside 1..13, or is 6 in a common year.
@@ -28,4 +28,4 @@ unfoldable pub noticeAnswer : ℕ → ℕ → NoticeAnswer
 noticeAnswer h code =
     cond (outOfYears h) (noNotice 1)
     (cond (noMonth (leap h) code) (noNotice 2)
-    (noticeOf (moladDay h code) (moladTime h code)))
+    (noticeAt (moladDay h code) (moladTime h code / partsInHour) (moladTime h code % partsInHour)))

@@ -1,2 +1,3 @@
 pub mod Clock
 pub mod Answers
+pub mod Promises

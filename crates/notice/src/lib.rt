@@ -1,7 +1,8 @@
 // What the molad notice shows.
 //
-// The notice gives the molad on the clock, beside the molad's own Hebrew day. Hours of the molad count from 18:00, those
-// of the clock from midnight, so the clock's hour is six less, counted round the 24. A minute has 18 parts.
+// The notice gives the molad on the clock, beside the civil day on which the clock stands. Hours of the molad count from
+// 18:00, those of the clock from midnight, so the clock's hour is six less. A molad in the first six hours of its Hebrew
+// day falls on the civil evening before: the day shown is the one before, with 24 hours more. A minute has 18 parts.
 ghost use mathlib.Core.Path.{_≡_};
 ghost use Rattle.notice.specs.Answers.{noticeAnswer};
 
@@ -36,11 +37,13 @@ pub fn notice(year: u64, month: u64) -> NoticeAnswer
     if m.refusal != 0 {
         return refused(m.refusal);
     }
+    let back = laws::pick(m.hour <= 5, 1, 0);
+    let day = m.day - back;
     NoticeAnswer {
         refusal: 0,
-        day: m.day,
-        weekday: days::weekday_of(m.day),
-        hour: (m.hour + 24 - 6) % 24,
+        day,
+        weekday: days::weekday_of(day),
+        hour: m.hour + 24 * back - 6,
         minute: m.part / 18,
         part: m.part % 18,
     }
