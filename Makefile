@@ -1,23 +1,27 @@
 # make help lists what can be asked for; README.md has the rest.
-.PHONY: help year test panel lib install uninstall clean
+.PHONY: help year notice test panel lib install uninstall clean
 
 # The lines of README.md that begin with make.
 help:
 	@sed -n 's/^    \(make .*\)/\1/p' README.md
 
-# What is typed for YEAR, WING, DATE, TIME and SUNSET is text. It goes to the programs by the environment, and neither make
-# nor a shell reads a command in it. Blanks around it are dropped: make itself drops those before it.
+# What is typed for YEAR, MONTH, WING, DATE, TIME and SUNSET is text. It goes to the programs by the environment, and neither
+# make nor a shell reads a command in it. Blanks around it are dropped: make itself drops those before it.
 define text
 ifneq ($$(origin $(1)),undefined)
 override $(1) := $$(strip $$(value $(1)))
 export $(1)
 endif
 endef
-$(foreach name,YEAR WING DATE TIME SUNSET,$(eval $(call text,$(name))))
+$(foreach name,YEAR MONTH WING DATE TIME SUNSET,$(eval $(call text,$(name))))
 
 # Without a YEAR, the year that it is now.
 year:
 	@tools/year $${YEAR+"$$YEAR"}
+
+# A year and a month's code; one that is missing is refused as an empty one is.
+notice:
+	@tools/notice "$${YEAR-}" "$${MONTH-}"
 
 # Without a WING, wing 1; without a DATE, today. CC names another compiler, for x86-64 Linux.
 panel:

@@ -5,11 +5,11 @@ use show::text;
 
 // An input that the output cannot show, and words for it.
 pub fn given(words: &[u8], input: &[u8]) {
-    let answer = line::year_on_line(input);
+    let answer = line::number_on_line(input);
     text(words);
     text(b" ->");
     number(answer.refusal);
-    number(answer.year);
+    number(answer.number);
     end();
     listing::print(input);
 }

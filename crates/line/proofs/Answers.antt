@@ -1,17 +1,17 @@
--- What `year_on_line` promises, and that its contract leaves one answer.
-use mathlib.Core.Path.{_≡_, refl, sym, _∙_}
+-- What `number_on_line` promises, and that its contract leaves one answer.
+use mathlib.Core.Path.{_≡_, refl, sym, ap, _∙_}
 use mathlib.Core.Bool.{not, false≢true}
 use mathlib.Core.List.{List, [], _∷_, _++_}
 use Prim.Native.Nat.{ℕ, _≤_}
 use native.Mathlib.Omega.{arith}
 use borrow.Author.Tests.{not-true, not-false}
-use lib.ListN.{length}
+use lib.ListN.{length, drop, length-drop}
 use Rattle.laws.specs.Runs.{eachOf}
 use Rattle.laws.specs.Promise.{_else_, Promised}
 use Rattle.laws.proofs.One.{one-result}
 use Rattle.laws.proofs.Promises.{Catches, ranged, either, asks, answered}
-use Rattle.line.specs.Line.{firstLine, figure, AllFigures, decimal}
-use Rattle.line.specs.Answers.{lineAnswer, lineOf}
+use Rattle.line.specs.Line.{firstLine, afterLine, figure, AllFigures, IsNumber, decimal}
+use Rattle.line.specs.Answers.{noNumber, lineOf, lineAnswer}
 use Rattle.line.specs.declared.LineAnswer.{LineAnswer}
 use Rattle.line.proofs.Lines.{figure-at, all-figures}
 
@@ -23,25 +23,37 @@ figures-caught line =
       catches = λ e m. false≢true (sym (not-true _ e) ∙ all-figures line m);
     }
 
-pub year-on-line-promised :
+-- So a line that is not one to five figures is.
+pub number-caught : (line : List ℕ) → Catches (noNumber line) (IsNumber line)
+number-caught line = either (ranged 1 5 (length line)) (figures-caught line)
+
+pub number-on-line-promised :
     (input : List ℕ) → let line = firstLine input in
     Promised (λ (r : LineAnswer). r .refusal)
-    ((((1 ≤ length line) × (length line ≤ 5)) × AllFigures line) else 1 ∷ [])
-    (λ r. r .year ≡ decimal line)
-    (λ n r. r .year ≡ 0)
+    (IsNumber line else 1 ∷ [])
+    (λ r. r .number ≡ decimal line)
+    (λ n r. r .number ≡ 0)
     (lineAnswer input)
 unfolding lineAnswer lineOf
-year-on-line-promised input =
+number-on-line-promised input =
     let line = firstLine input in
-    asks (record { refusal = 1; year = 0 }) (either (ranged 1 5 (length line)) (figures-caught line)) (omega arith) refl refl (λ _.
+    asks (record { refusal = 1; number = 0 }) (number-caught line) (omega arith) refl refl (λ _.
     answered refl refl)
 
 -- An example: "5762", with and without a line feed.
-pub year-5762 :
+pub line-5762 :
     let line : List ℕ = 53 ∷ 55 ∷ 54 ∷ 50 ∷ [] in
-    (lineAnswer line ≡ record { refusal = 0; year = 5762 }) × (lineAnswer (line ++ 10 ∷ []) ≡ record { refusal = 0; year = 5762 })
+    (lineAnswer line ≡ record { refusal = 0; number = 5762 }) × (lineAnswer (line ++ 10 ∷ []) ≡ record { refusal = 0; number = 5762 })
 unfolding lineAnswer lineOf firstLine eachOf decimal
-year-5762 = (refl, refl)
+line-5762 = (refl, refl)
 
-pub year-on-line-one : (input : List ℕ) (r s : LineAnswer) → r ≡ lineAnswer input → s ≡ lineAnswer input → r ≡ s
-year-on-line-one input = one-result (lineAnswer input)
+pub number-on-line-one : (input : List ℕ) (r s : LineAnswer) → r ≡ lineAnswer input → s ≡ lineAnswer input → r ≡ s
+number-on-line-one input = one-result (lineAnswer input)
+
+-- `after_line` is a step: its contract allows one place.
+pub after-line-one :
+    (input : List ℕ) (r s : ℕ) → (r ≤ length input) × (drop r input ≡ afterLine input) →
+    (s ≤ length input) × (drop s input ≡ afterLine input) → r ≡ s
+after-line-one input r s p q =
+    let same : length (drop r input) ≡ length (drop s input) = ap length (p .1 ∙ sym (q .1)) in
+    omega (arith, rw (length-drop r input, length-drop s input) at same)

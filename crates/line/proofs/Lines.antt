@@ -1,4 +1,5 @@
--- Lines and figures: the first line as a part of the input, one more figure, and how large a number figures make.
+-- Lines and figures: the first line and what follows it as parts of the input, one more figure, and how large a number
+-- figures make.
 use mathlib.Core.Path.{_≡_, refl, sym, ap, _∙_}
 use mathlib.Core.Bool.{Bool, true, false, cond, false≢true}
 use mathlib.Core.List.{List, [], _∷_, _++_}
@@ -10,11 +11,11 @@ use native.Mathlib.Omega.{arith}
 use native.Mathlib.Decide.{ℕ-discrete}
 use borrow.Author.Tests.{not-true, le-ltb, ne-eqb}
 use lib.Dec.{eqb, lit<}
-use lib.ListN.{length, take, length-append}
+use lib.ListN.{length, take, drop, length-append}
 use Rattle.bytes.specs.Bytes.{indexOf, indexAfter}
 use Rattle.laws.specs.Runs.{eachOf, elem}
 use Rattle.laws.proofs.Tests.{within, and-left, and-right, or-left, or-right}
-use Rattle.line.specs.Line.{firstLine, figure, AllFigures, decimal}
+use Rattle.line.specs.Line.{firstLine, afterLine, figure, AllFigures, decimal}
 
 -- The first line ends where the first line feed stands.
 taken : (b : Bool) (byte : ℕ) (n : ℕ) (rest line : List ℕ) → take n rest ≡ line → take (indexAfter b n) (byte ∷ rest) ≡ cond b [] (byte ∷ line)
@@ -27,14 +28,31 @@ unfolding indexOf firstLine
 to-line-feed [] = refl
 to-line-feed (byte ∷ rest) = taken (eqb byte 10) byte (indexOf 10 rest) rest (firstLine rest) (to-line-feed rest)
 
--- The first line is what stands before the first line feed, or all if there is none.
-pub first-line-is : (line rest : List ℕ) → elem 10 line ≡ false → (firstLine line ≡ line) × (firstLine (line ++ 10 ∷ rest) ≡ line)
-unfolding firstLine
-first-line-is [] rest e = (refl, refl)
-first-line-is (x ∷ line) rest e =
+-- The first line is what stands before the first line feed, or all if there is none; the lines after it are what stands
+-- behind that line feed, or none.
+pub lines-are :
+    (line rest : List ℕ) → elem 10 line ≡ false → let input = line ++ 10 ∷ rest in
+    ((firstLine line ≡ line) × (afterLine line ≡ [])) × ((firstLine input ≡ line) × (afterLine input ≡ rest))
+unfolding firstLine afterLine
+lines-are [] rest e = ((refl, refl), (refl, refl))
+lines-are (x ∷ line) rest e =
     by-cases (ℕ-discrete x 10)
     (λ q. absurd (false≢true (sym (rw q at (or-left (eqb 10 x) _ e)))))
-    (λ q. let i = first-line-is line rest (or-right (eqb 10 x) _ e) in rw (ne-eqb x 10 q, i .0, i .1) (refl, refl))
+    (λ q.
+    let i = lines-are line rest (or-right (eqb 10 x) _ e) in
+    rw (ne-eqb x 10 q, i .0 .0, i .0 .1, i .1 .0, i .1 .1) ((refl, refl), (refl, refl)))
+
+-- The later lines begin one byte past the first line's end.
+behind :
+    (b : Bool) (byte : ℕ) (rest line lines : List ℕ) → drop (suc (length line)) rest ≡ lines →
+    drop (suc (length (cond b [] (byte ∷ line)))) (byte ∷ rest) ≡ cond b rest lines
+behind true byte rest line lines e = refl
+behind false byte rest line lines e = e
+
+pub past-line : (input : List ℕ) → drop (suc (length (firstLine input))) input ≡ afterLine input
+unfolding firstLine afterLine
+past-line [] = refl
+past-line (byte ∷ rest) = behind (eqb byte 10) byte rest (firstLine rest) (afterLine rest) (past-line rest)
 
 -- Each byte of a line of figures is a figure, and a line whose bytes all are is one of figures.
 pub figure-at : (l : List ℕ) → eachOf l figure ≡ true → AllFigures l

@@ -1,4 +1,4 @@
--- What `year_on_line` answers.
+-- What `number_on_line` answers.
 use mathlib.Core.Bool.{Bool, not, cond, _||_}
 use mathlib.Core.List.{List}
 use Prim.Native.Nat.{ℕ}
@@ -8,13 +8,13 @@ use Rattle.line.specs.Line.{firstLine, figure, decimal}
 use Rattle.line.specs.declared.LineAnswer.{LineAnswer}
 
 -- The line holds anything but one to five figures.
-abbrev pub noYear : List ℕ → Bool
-noYear line = outside 1 5 (length line) || not (eachOf line figure)
+abbrev pub noNumber : List ℕ → Bool
+noNumber line = outside 1 5 (length line) || not (eachOf line figure)
 
 -- Refusal 1: the line holds anything but one to five figures. An empty line holds no figure.
 unfoldable pub lineOf : List ℕ → LineAnswer
-lineOf line = cond (noYear line) (record { refusal = 1; year = 0 }) (record { refusal = 0; year = decimal line })
+lineOf line = cond (noNumber line) (record { refusal = 1; number = 0 }) (record { refusal = 0; number = decimal line })
 
--- Only the first line is read; that of empty input is empty.
+-- The number on the first line. Empty input has an empty one.
 unfoldable pub lineAnswer : List ℕ → LineAnswer
 lineAnswer input = lineOf (firstLine input)

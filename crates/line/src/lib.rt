@@ -1,18 +1,18 @@
-// Which year does a line of input hold.
+// Which number does a line of input hold, and where does the next line begin.
 //
-// The year program reads one decimal year on a line. Only the first line is read; one that holds anything but one to
-// five figures is refused, and so is empty input. Whether the library covers the year is not asked here.
+// A program reads one decimal number on a line: a year, a month's code. A line that holds anything but one to five figures
+// is refused, and so is a line that is empty or missing. Whether the library covers the number is not asked here.
 ghost use mathlib.Core.Path.{_≡_};
 ghost use mathlib.Core.Bool.{true};
 ghost use Prim.Native.Nat.{_≤_, _-_};
-ghost use lib.ListN.{length, take};
+ghost use lib.ListN.{length, take, drop};
 ghost use Rattle.laws.specs.Runs.{eachOf};
-ghost use Rattle.line.specs.Line.{firstLine, figure};
+ghost use Rattle.line.specs.Line.{firstLine, afterLine, figure};
 ghost use Rattle.line.specs.Line.{decimal as Line·decimal};
 ghost use Rattle.line.specs.Answers.{lineAnswer};
 
 // The line feed.
-const LINE_END: u8 = 10;
+pub const LINE_END: u8 = 10;
 // The figures 0 and 9.
 const NOUGHT: u8 = 48;
 
@@ -21,7 +21,7 @@ const NINE: u8 = 57;
 #[repr(C)]
 pub struct LineAnswer {
     pub refusal: u64,
-    pub year: u64,
+    pub number: u64,
 }
 
 // How many bytes the first line has.
@@ -29,6 +29,17 @@ fn line_length(input: &[u8]) -> usize
     ensures { λ r. ⌜ (r ≤ length (now (input .entry))) × (take r (now (input .entry)) ≡ firstLine (now (input .entry))) ⌝ }
 {
     bytes::scan::find(input, 0, input.len(), LINE_END)
+}
+
+// Where the second line begins: after the first line feed, or at the end of the input if it has none.
+pub fn after_line(input: &[u8]) -> usize
+    ensures { λ r. ⌜ (r ≤ length (now (input .entry))) × (drop r (now (input .entry)) ≡ afterLine (now (input .entry))) ⌝ }
+{
+    let n = line_length(input);
+    if n < input.len() {
+        return n + 1;
+    }
+    n
 }
 
 fn all_figures(line: &[u8]) -> bool
@@ -67,7 +78,7 @@ fn decimal(line: &[u8]) -> u64
 }
 
 // Refusal 1 for a first line that is not one to five figures.
-pub fn year_on_line(input: &[u8]) -> LineAnswer
+pub fn number_on_line(input: &[u8]) -> LineAnswer
     ensures { λ r. ⌜ r ≡ lineAnswer (now (input .entry)) ⌝ }
 {
     let n = line_length(input);
@@ -75,11 +86,11 @@ pub fn year_on_line(input: &[u8]) -> LineAnswer
     if ((n < 1) | (5 < n)) | !all_figures(line) {
         return LineAnswer {
             refusal: 1,
-            year: 0,
+            number: 0,
         };
     }
     LineAnswer {
         refusal: 0,
-        year: decimal(line),
+        number: decimal(line),
     }
 }

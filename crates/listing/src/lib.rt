@@ -3,18 +3,11 @@
 // The first line has the year, the weekday of its New Year, its length and months, the day, hour and part of Tishri's
 // molad, and the delay of New Year with its cause. A line for each rest day of wing 1 follows, rising: month code, day,
 // weekday, day number and Gregorian date. What is refused prints only its number.
+use show::date;
 use show::end;
 use show::number;
 use show::plain;
-use show::signed;
-use show::text;
-use show::two_figures;
-
-fn refused(refusal: u64) {
-    text(b"refused");
-    number(refusal);
-    end();
-}
+use show::refused;
 
 fn head(year: u64, facts: newyear::YearAnswer) {
     let tishri = molad::molad(year, 1);
@@ -30,22 +23,14 @@ fn head(year: u64, facts: newyear::YearAnswer) {
     end();
 }
 
-// Years print without padding, with a minus sign below zero; months and days have two figures.
-fn civil_date(date: civil::CivilDate) {
-    signed(date.year);
-    text(b"-");
-    two_figures(date.month);
-    text(b"-");
-    two_figures(date.day);
-}
-
 fn row(day: u64) {
-    let date = hebrew::day_to_hebrew(day);
-    plain(date.month);
-    number(date.day);
+    let found = hebrew::day_to_hebrew(day);
+    let daylight = civil::day_to_gregorian(day);
+    plain(found.month);
+    number(found.day);
     number(days::weekday(day).weekday);
     number(day);
-    civil_date(civil::day_to_gregorian(day));
+    date(daylight.year, daylight.month, daylight.day);
     end();
 }
 
@@ -71,10 +56,10 @@ fn year(year: u64) {
 
 // The listing of the year on the input's first line, or its refusal.
 pub fn print(input: &[u8]) {
-    let asked = line::year_on_line(input);
+    let asked = line::number_on_line(input);
     if asked.refusal != 0 {
         refused(asked.refusal);
     } else {
-        year(asked.year);
+        year(asked.number);
     }
 }

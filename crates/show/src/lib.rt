@@ -1,4 +1,5 @@
-// What the programs print with: words, numbers and line ends on standard output; and one number for many.
+// What the programs print with: words, numbers, civil dates, refusals and line ends on standard output; and one number for
+// many.
 ghost use mathlib.Core.Path.{_≡_};
 ghost use Prim.Native.Nat.{_+_, _*_, _%_};
 ghost use lib.IntN.{natAbs};
@@ -19,7 +20,7 @@ pub fn number(n: u64) {
     plain(n);
 }
 
-// A number of a civil date, which has two figures.
+// A number of a civil date or of the clock, which has two figures.
 pub fn two_figures(n: u64) {
     if n < 10 {
         io::write_all(STDOUT_FILENO, b"0");
@@ -48,8 +49,24 @@ pub fn signed(n: i64) {
     io::print_decimal(STDOUT_FILENO, magnitude(n));
 }
 
+// A civil date, after one blank: the year without padding, with a minus sign below zero; month and day of two figures.
+pub fn date(year: i64, month: u64, day: u64) {
+    signed(year);
+    text(b"-");
+    two_figures(month);
+    text(b"-");
+    two_figures(day);
+}
+
 pub fn end() {
     io::write_all(STDOUT_FILENO, b"\n");
+}
+
+// What is printed in place of an answer.
+pub fn refused(refusal: u64) {
+    text(b"refused");
+    number(refusal);
+    end();
 }
 
 const PRIME: u64 = 1_000_000_007;
