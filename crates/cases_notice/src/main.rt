@@ -60,6 +60,7 @@ fn sources() {
     ask(4223, 1);
     ask(4257, 1);
     ask(3174, 1);
+    // Printed 12h 4p; its own sum gives 14 parts.
     ask(2809, 1);
     ask(5725, 1);
     ask(3247, 2);
