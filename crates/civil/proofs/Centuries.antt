@@ -1,6 +1,6 @@
 -- The Gregorian years: the leap rule by the year's place in its century, and the days of the years from −3760 on.
 use mathlib.Core.Path.{_≡_, refl, _∙_}
-use mathlib.Core.Bool.{Bool, _&&_, not, cond, Bool·not-not, and-true}
+use mathlib.Core.Bool.{Bool, cond, and-true}
 use mathlib.Core.Logic.{by-cases}
 use Prim.Native.Nat.{ℕ, zero, suc, _+_, _*_, _/_, _%_, _<_}
 use native.Mathlib.Omega.{arith}
@@ -13,8 +13,8 @@ use Rattle.civil.proofs.MonthStarts.{year-days}
 use Rattle.civil.proofs.Years.{fourth}
 
 -- The year 100 q + r: r decides, but for the first year of a century, where q does.
-abbrev pub leapAt : ℕ → ℕ → Bool
-leapAt q r = divisible 4 r && not (eqb r 0 && not (divisible 4 q))
+abbrev leapAt : ℕ → ℕ → Bool
+leapAt q r = divisible 4 (cond (eqb r 0) q r)
 
 pub fourth-of : (q r : ℕ) → (100 * q + r) % 4 ≡ r % 4
 fourth-of q r = let e : 100 * q + r ≡ 4 * (25 * q) + r = omega arith in rw e (mul-add-mod-self-left 4 (25 * q) r)
@@ -30,10 +30,11 @@ rule q r h =
     rw (fourth-of q r, b, c)
     (by-cases (ℕ-discrete r 0)
     (λ e.
+    let f = eq-eqb (r % 4) 0 (omega arith) in
     by-cases (ℕ-discrete (q % 4) 0)
-    (λ f. rw (eq-eqb (q % 4) 0 f, eq-eqb (100 * (q % 4) + r) 0 (omega arith)))
-    (λ f. rw (ne-eqb (q % 4) 0 f, ne-eqb (100 * (q % 4) + r) 0 (omega arith))))
-    (λ e. rw (ne-eqb r 0 e)))
+    (λ g. rw (f, eq-eqb r 0 e, eq-eqb (q % 4) 0 g, eq-eqb (100 * (q % 4) + r) 0 (omega arith)))
+    (λ g. rw (f, eq-eqb r 0 e, ne-eqb (q % 4) 0 g, ne-eqb (100 * (q % 4) + r) 0 (λ z. g (omega arith)))))
+    (λ e. rw (ne-eqb r 0 e) (and-true (divisible 4 r))))
 
 -- Centuries begun before a year.
 abbrev pub centuries : ℕ → ℕ
@@ -55,13 +56,21 @@ leap-day q r h =
     (λ b.
     let at : centuries s ≡ q = omega arith in
     let after : centuries (s + 1) ≡ q + 1 = omega arith in
-    let one : leapAt q r ≡ divisible 4 q = rw (b, Bool·not-not (divisible 4 q)) in
+    let one : leapAt q r ≡ divisible 4 q = rw (eq-eqb r 0 b) in
     rw (at, after, three, four, one, b) (omega (arith, fourth q)))
     (λ b.
     let at : centuries s ≡ q + 1 = omega arith in
     let after : centuries (s + 1) ≡ q + 1 = omega arith in
-    let one : leapAt q r ≡ divisible 4 r = rw (ne-eqb r 0 b, and-true (divisible 4 r)) in
+    let one : leapAt q r ≡ divisible 4 r = rw (ne-eqb r 0 b) in
     rw (at, after, three, four, one) (omega (arith, fourth r)))
+
+-- The same by the year's own number.
+pub one-year-on :
+    (s : ℕ) →
+    cond (gregorianLeap s) 1 0 + centuries (s + 1) + (s + 3) / 4 + (centuries s + 3) / 4 ≡ centuries s + (s + 1 + 3) / 4 + (centuries (s + 1) + 3) / 4
+one-year-on s =
+    let e : 100 * (s / 100) + s % 100 ≡ s = omega arith in
+    rw (← rule (s / 100) (s % 100) (omega arith), e) at (leap-day (s / 100) (s % 100) (omega arith))
 
 -- The sum so far and one year more, with each quotient a number of its own.
 one-more :
@@ -80,9 +89,7 @@ unfolding yearsDays
 gregorian-years zero = refl
 gregorian-years (suc k) =
     let s = firstRaised + k in
-    let e : 100 * (s / 100) + s % 100 ≡ s = omega arith in
-    let t = rw (← rule (s / 100) (s % 100) (omega arith), e) at (leap-day (s / 100) (s % 100) (omega arith)) in
     let f : firstRaised + suc k ≡ s + 1 = omega arith in
     rw f
     (one-more (yearsDays gregorianLeap k) (yearDays (gregorianLeap s)) (cond (gregorianLeap s) 1 0) k ((s + 3) / 4) (centuries s)
-    ((centuries s + 3) / 4) ((s + 1 + 3) / 4) (centuries (s + 1)) ((centuries (s + 1) + 3) / 4) (gregorian-years k) (year-days (gregorianLeap s)) t)
+    ((centuries s + 3) / 4) ((s + 1 + 3) / 4) (centuries (s + 1)) ((centuries (s + 1) + 3) / 4) (gregorian-years k) (year-days (gregorianLeap s)) (one-year-on s))

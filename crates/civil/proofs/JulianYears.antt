@@ -1,14 +1,13 @@
 -- The Julian calendar's years: a year's eve, and the year of a day.
-use mathlib.Core.Path.{_≡_, refl, sym, _∙_}
+use mathlib.Core.Path.{_≡_, refl}
 use Prim.Native.Nat.{ℕ, _+_, _-_, _*_, _/_, _%_, _≤_, _<_}
 use native.Mathlib.Omega.{arith}
 use Rattle.days.specs.Range.{firstDay, lastDay}
 use Rattle.civil.specs.Calendar.{julian, julianLeap, monthDays, daysBefore, yearsDays, firstRaised, divisible, daysTo, dayOf}
-use Rattle.civil.specs.Steps.{IsYearDay}
-use Rattle.civil.specs.declared.YearDay.{YearDay}
-use Rattle.civil.proofs.MonthStarts.{january, year-days}
-use Rattle.civil.proofs.Years.{julian-rule, julian-years}
+use Rattle.civil.proofs.MonthStarts.{january, march}
+use Rattle.civil.proofs.Years.{fourth, julian-rule, julian-years}
 use Rattle.civil.proofs.Quarters.{place, short}
+use Rattle.civil.proofs.MarchYears.{IsMarchDay}
 use Rattle.civil.proofs.Dates.{Covers}
 
 pub julian-first : daysTo julian firstRaised 10 7 ≡ 281
@@ -32,29 +31,36 @@ julian-eve s l =
     let e : firstRaised + (s - firstRaised) ≡ s = omega arith in
     let t = rw e at (julian-day (s - firstRaised) 1 0) in omega (arith, january (divisible 4 (s - firstRaised)))
 
+-- 1 March of the raised year 0 is day 260,118.
+julian-march : (s d : ℕ) → firstRaised ≤ s → dayOf julian s 3 d ≡ 260117 + 365 * s + s / 4 + d
+julian-march s d l =
+    let k = s - firstRaised in
+    let e : firstRaised + k ≡ s = omega arith in
+    let t = rw e at (julian-day k 3 d) in omega (arith, march (divisible 4 k), fourth k)
+
 -- The year of a day, as the code works it out.
 abbrev pub quarters : ℕ → ℕ
-quarters j = 4 * (j - 347718)
+quarters j = 4 * (j - 260118) + 3
 
 abbrev pub years : ℕ → ℕ
 years j = quarters j / 1461
 
-abbrev pub yearDay : ℕ → YearDay
-yearDay j = record { year = years j + 240; leap = divisible 4 (years j); day = quarters j % 1461 / 4 }
+abbrev pub sinceMarch : ℕ → ℕ
+sinceMarch j = quarters j % 1461 / 4
 
-pub julian-in-year : (j : ℕ) → firstDay ≤ j → j ≤ lastDay → IsYearDay julian j (yearDay j)
+pub julian-in-year : (j : ℕ) → firstDay ≤ j → j ≤ lastDay → IsMarchDay julian j (years j) (sinceMarch j)
+unfolding julianLeap
 julian-in-year j l u =
-    let n = j - 347718 in
-    let k = years j in
+    let n = j - 260118 in
+    let s = years j in
     let r = quarters j % 1461 in
-    let e : 4 * n ≡ (4 * 365 + 1) * k + r = omega arith in
+    let e : 4 * n + 3 ≡ (4 * 365 + 1) * s + r = omega arith in
     let h : r < 4 * 365 + 1 = omega arith in
-    let f : firstRaised + k ≡ k + 240 = omega arith in
-    let p : 365 * k + (k + 3) / 4 + r / 4 ≡ n = place 365 n k r e h in
+    let p : 365 * s + s / 4 + r / 4 ≡ n = place 365 n s r e h in
+    let first : firstRaised ≤ s = omega arith in
     record {
-      first-year = omega arith;
+      first-year = first;
       last-year = omega arith;
-      rule = rw f at (sym (julian-rule k));
-      short = omega (arith, short 365 n k r e h, year-days (divisible 4 k));
-      place = (rw f at (julian-day k 1 (r / 4 + 1))) ∙ omega (arith, january (divisible 4 k));
+      short = omega (arith, short 365 n s r e h, march (divisible 4 (s + 1)));
+      place = omega (arith, julian-march s (r / 4 + 1) first);
     }

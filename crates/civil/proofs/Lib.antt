@@ -5,6 +5,7 @@ pub mod MonthOf
 pub mod Years
 pub mod Centuries
 pub mod Quarters
+pub mod MarchYears
 pub mod Dates
 pub mod JulianYears
 pub mod GregorianYears

@@ -17,6 +17,11 @@ pub january : (leap : Bool) → daysBefore leap 1 ≡ 0
 unfolding daysBefore monthDays
 january leap = refl
 
+pub march : (leap : Bool) → daysBefore leap 3 ≡ 59 + cond leap 1 0
+unfolding daysBefore monthDays
+march true = refl
+march false = refl
+
 pub next-month : (leap : Bool) (m : ℕ) → daysBefore leap (m + 1) ≡ daysBefore leap m + monthDays leap m
 unfolding daysBefore
 next-month leap m = rw add-one
@@ -48,6 +53,12 @@ unfolding daysBefore
 months-rise leap a zero p = absurd (omega arith)
 months-rise leap a (suc b) p =
     by-cases (ℕ-discrete a b) (λ q. rw q (omega arith)) (λ q. omega (arith, months-rise leap a b (omega arith)))
+
+pub before-most : (leap : Bool) (m : ℕ) → m ≤ 13 → daysBefore leap m ≤ 366
+before-most leap m u =
+    by-cases (ℕ-discrete m 13)
+    (λ p. rw p (omega (arith, year-whole leap, at-most leap)))
+    (λ p. omega (arith, months-rise leap m 13 (omega arith), year-whole leap, at-most leap))
 
 -- A day of the year has one month and day.
 pub one-month :

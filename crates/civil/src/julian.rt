@@ -1,9 +1,12 @@
-// The Julian calendar. Four years have 1,461 days, the first of them a leap year: counted from 1 January of a leap year,
-// year k begins after 1,461 k / 4 days, rounded up.
+// The Julian calendar. Four years have 1,461 days. Counted from 1 January of a leap year, year k begins after
+// 1,461 k / 4 days, rounded up; from its 1 March, so that a leap day is the last day of four years, after so many rounded
+// down, and day n lies in year (4 n + 3) / 1,461.
 use crate::CivilDate;
 use crate::CivilDay;
 use crate::Year;
 use crate::YearDay;
+use crate::months::TO_JANUARY;
+use crate::months::days_before;
 use crate::signed::raised;
 use crate::to_date::date_in;
 use crate::to_date::no_date;
@@ -15,10 +18,11 @@ ghost use Rattle.civil.specs.Calendar.{julian, lastRaised};
 ghost use Rattle.civil.specs.Answers.{civilDay, civilDate};
 ghost use Rattle.civil.specs.Steps.{IsYear, IsYearDay};
 
-// 1 January −3760, raised year 240.
-const NEW_YEAR: u64 = 347_718;
 // The day before 1 January −4000, raised year 0.
 const EVE: u64 = 260_057;
+
+// 1 March of that year.
+const MARCH: u64 = 260_118;
 
 fn year(number: u64) -> Year
     requires { ⌜ number ≤ lastRaised ⌝ }
@@ -36,12 +40,23 @@ fn year_of(day: u64) -> YearDay
     requires { ⌜ InRange day ⌝ }
     ensures { λ r. ⌜ IsYearDay julian day r ⌝ }
 {
-    let quarters = 4 * (day - NEW_YEAR);
+    let quarters = 4 * (day - MARCH) + 3;
     let years = quarters / 1461;
-    YearDay {
-        year: years + 240,
-        leap: years % 4 == 0,
-        day: quarters % 1461 / 4,
+    let since_march = quarters % 1461 / 4;
+    if TO_JANUARY <= since_march {
+        // January and February of the next year.
+        YearDay {
+            year: years + 1,
+            leap: years % 4 == 3,
+            day: since_march - TO_JANUARY,
+        }
+    } else {
+        let leap = years % 4 == 0;
+        YearDay {
+            year: years,
+            leap,
+            day: days_before(leap, 3) + since_march,
+        }
     }
 }
 

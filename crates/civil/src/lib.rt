@@ -3,9 +3,9 @@
 // Both calendars have the same twelve months and differ only in their leap years: a Julian year is leap if 4 divides
 // it, a Gregorian one also, but not if 100 divides it and 400 does not. Each is carried back without a break, with a
 // year 0, to −3760, so a year's own number decides at any time. Inside, a year is counted as year + 4,000, its raised
-// year, and a calendar's years and days are split by whole divisions: four Julian years have 1,461 days, four
-// Gregorian centuries have 146,097. What remains, the day of the year, both calendars read from the same two tables
-// of months, a common year's and a leap year's.
+// year. Where a day's date is looked for, years are begun in March, so that the leap day is the last of its year, and
+// centuries, years and months are split off by whole divisions: four Gregorian centuries have 146,097 days, four Julian
+// years 1,461, and five months from March on 153.
 mod gregorian;
 mod julian;
 mod months;

@@ -1,4 +1,7 @@
-// The months of a year, the same in both calendars: where each begins.
+// The months of a year, the same in both calendars, by a count that begins in March: from there on they have 31, 30, 31,
+// 30 and 31 days, 153 in five months, and so again. Month m begins (153 (m − 3) + 2) / 5 days after 1 March, and the day
+// that is x days after it lies in month (5 x + 2) / 153 + 3. January and February stand before the count, 31 days apart,
+// and with them the leap day, so that it moves the count as a whole.
 use crate::MonthDay;
 use laws::pick;
 ghost use mathlib.Core.Path.{_≡_};
@@ -6,30 +9,40 @@ ghost use Prim.Native.Nat.{_≤_, _<_};
 ghost use Rattle.civil.specs.Calendar.{daysBefore, yearDays};
 ghost use Rattle.civil.specs.Steps.{IsMonthDay};
 
-// The days of the year before each month, and in the whole year.
-const COMMON: [u64; 13] = [0, 31, 59, 90, 120, 151, 181, 212, 243, 273, 304, 334, 365];
+// The days from 1 January to 1 March in a common year.
+const TO_MARCH: u64 = 59;
 
-const LEAP: [u64; 13] = [0, 31, 60, 91, 121, 152, 182, 213, 244, 274, 305, 335, 366];
+// The days from 1 March to 1 January, two times five months.
+pub const TO_JANUARY: u64 = 306;
 
 // A step, for months 1 to 12; 13 gives the whole year.
 pub fn days_before(leap: bool, month: u64) -> u64
     requires { ⌜ (1 ≤ month) × (month ≤ 13) ⌝ }
     ensures { λ r. ⌜ (r ≡ daysBefore leap month) × (r ≤ 366) ⌝ }
 {
-    let at = (month - 1) as usize;
-    if leap { LEAP[at] } else { COMMON[at] }
+    if month < 3 {
+        31 * (month - 1)
+    } else {
+        TO_MARCH + pick(leap, 1, 0) + (153 * (month - 3) + 2) / 5
+    }
 }
 
-// A step, for a day of the year, from 0. No month has more than 31 days, so that the guess is never past the month; and
-// it is at most one short of it.
+// A step, for a day of the year, from 0.
 pub fn month_of(leap: bool, day: u64) -> MonthDay
     requires { ⌜ day < yearDays leap ⌝ }
     ensures { λ r. ⌜ IsMonthDay leap day (r .month) (r .day) ⌝ }
 {
-    let guess = day / 32 + 1;
-    let month = pick(days_before(leap, guess + 1) <= day, guess + 1, guess);
-    MonthDay {
-        month,
-        day: day - days_before(leap, month) + 1,
+    let march = days_before(leap, 3);
+    if day < march {
+        MonthDay {
+            month: day / 31 + 1,
+            day: day % 31 + 1,
+        }
+    } else {
+        let fifths = 5 * (day - march) + 2;
+        MonthDay {
+            month: fifths / 153 + 3,
+            day: fifths % 153 / 5 + 1,
+        }
     }
 }

@@ -19,6 +19,8 @@ year-spec =
     (search needs)
     (search needs)
     (search needs)
+    (search needs)
     (λ c.
-    let s = c .args .number in
-    record { number = refl; rule = gregorian-rule s; eve = λ l. sym (gregorian-eve s l); small = omega arith }))
+    let s = c .before .args .number in
+    rw (c .pick .ensures .0)
+    (record { number = refl; rule = gregorian-rule s; eve = λ l. sym (gregorian-eve s l); small = omega arith })))

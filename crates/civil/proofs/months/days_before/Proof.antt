@@ -1,6 +1,7 @@
 use borrow.Author.Needs.{needs}
-use mathlib.Core.Bool.{true, false}
-use Rattle.civil.proofs.MonthOf.{starts-right}
+use native.Mathlib.Omega.{arith}
+use Rattle.civil.proofs.MonthStarts.{before-most}
+use Rattle.civil.proofs.MonthOf.{early-start, late-start}
 use Rattle.civil.proofs.months.days_before.Statement.{statement}
 use Rattle.civil.proofs.months.days_before.Tie as tie
 
@@ -13,5 +14,14 @@ days-before-spec =
     (search needs)
     (search needs)
     (search needs)
-    (λ c. let b = c .before in rw (c .if1 .taken) (starts-right true (b .args .month) (b .pre .0) (b .pre .1)))
-    (λ c. let b = c .before in rw (c .if1 .left) (starts-right false (b .args .month) (b .pre .0) (b .pre .1))))
+    (search needs)
+    (search needs)
+    (λ c.
+    let s = c .before in
+    let a = s .args in
+    omega (arith, early-start (a .leap) (a .month) (s .pre .0) (c .if1 .taken), before-most (a .leap) (a .month) (s .pre .1)))
+    (λ c.
+    let s = c .before .before in
+    let a = s .args in
+    rw (c .pick .ensures .0, late-start (a .leap) (a .month) (omega arith) (s .pre .1))
+    (omega (arith, before-most (a .leap) (a .month) (s .pre .1)))))
