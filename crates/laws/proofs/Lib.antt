@@ -1,6 +1,7 @@
 pub mod Counted
 pub mod Cycle
 pub mod Found
+pub mod Joins
 pub mod One
 pub mod Promises
 pub mod Shifts

@@ -32,6 +32,16 @@ ranged a b x =
       catches = λ e m. false≢true (rw (le-ltb x a (m .0), le-ltb b x (m .1)) at e);
     }
 
+-- Two tests that catch the same are one.
+pub caught-alike : {s t : Bool} {M N : Type 0} → Catches s M → Catches t N → (M → N) → (N → M) → s ≡ t
+caught-alike {s} {t} {M} {N} p q f g = go s t p q
+  where
+    go : (s t : Bool) → Catches s M → Catches t N → s ≡ t
+    go true true p q = refl
+    go true false p q = absurd (p .catches refl (g (q .passes refl)))
+    go false true p q = absurd (q .catches refl (f (p .passes refl)))
+    go false false p q = refl
+
 -- Two things are asked together.
 pub either : {s t : Bool} {M N : Type 0} → Catches s M → Catches t N → Catches (s || t) (M × N)
 either {s} {t} {M} {N} p q = go s t p q

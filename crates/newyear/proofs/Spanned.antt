@@ -1,5 +1,5 @@
 -- A year's span from its New Year and the next.
-use mathlib.Core.Path.{_≡_}
+use mathlib.Core.Path.{_≡_, sym, subst}
 use Prim.Native.Nat.{ℕ, _+_, _-_, _≤_, _<_}
 use native.Mathlib.Omega.{arith}
 use Rattle.days.specs.Range.{InRange}
@@ -26,6 +26,10 @@ spans h s l u y b d =
       small = omega arith;
       measured = rw d (length-in h l (omega arith));
     }
+
+-- The span's own year is the year that it spans.
+pub spans-own : (h : ℕ) (s : Span) → Spans h s → Spans (s .year) s
+spans-own h s e = subst (λ (y : ℕ). Spans y s) (sym (e .year)) e
 
 -- A day lies in the span of the year that holds it.
 pub span-holds : (j : ℕ) (s : Span) → InRange j → Spans (yearOf j) s → (s .«new_year» ≤ j) × (j < s .«new_year» + s .length)

@@ -12,7 +12,7 @@ use lib.ListN.{length, take, drop}
 use Rattle.laws.specs.Promise.{_else_, Promised, SmallestAfter}
 use Rattle.laws.specs.Buffer.{Lent, overwrite}
 use Rattle.laws.proofs.One.{one-result}
-use Rattle.laws.proofs.Stores.{list-written}
+use Rattle.laws.proofs.Stores.{list-written, lent-done, lent-unless}
 use Rattle.laws.proofs.Promises.{Catches, ranged, asks, answered, smallest-after}
 use Rattle.molad.specs.Years.{lastYear, InYears, outOfYears}
 use Rattle.hebrew.specs.Dates.{dayNumber}
@@ -43,16 +43,12 @@ list-promised h buffer list count =
 
 -- The buffer.
 pub list-lent : (h : ℕ) (buffer list : List ℕ) (count : ℕ) → Lent (listAnswer h buffer list count .refusal) list buffer (listBuffer h buffer list)
-unfolding listAnswer listBuffer overwrite
-list-lent h buffer list count = go (outOfYears h) (ltb (length buffer) (length list))
-  where
-    go :
-        (a b : Bool) →
-        Lent (cond a (noList 1) (cond b (record { refusal = 10; count = length list }) (record { refusal = 0; count = count })) .refusal) list
-        buffer (cond a buffer (cond b buffer (list ++ drop (length list) buffer)))
-    go true b = record { untouched = λ _. refl; written = λ e. absurd (omega arith) }
-    go false true = record { untouched = λ _. refl; written = λ e. absurd (omega arith) }
-    go false false = record { untouched = λ e. absurd (omega arith); written = λ _. refl }
+unfolding listAnswer listBuffer
+list-lent h buffer list count =
+    let unless = lent-unless (λ (r : ListAnswer). r .refusal) in
+    unless (outOfYears h) (noList 1) _ list buffer _ (omega arith)
+    (unless (ltb (length buffer) (length list)) (record { refusal = 10; count = length list }) (record { refusal = 0; count = count }) list buffer _ (omega arith)
+    (lent-done 0 list buffer refl))
 
 -- The rest days of the year, eight or thirteen.
 pub rest-days-promised :

@@ -11,6 +11,7 @@ use lib.ListN.{length}
 use Rattle.laws.specs.Promise.{Asked, _else_, Promised}
 use Rattle.laws.specs.Buffer.{Lent}
 use Rattle.laws.proofs.Tests.{within}
+use Rattle.laws.proofs.Stores.{lent-unless}
 use Rattle.laws.proofs.Promises.{Catches, asks}
 use Rattle.rest.specs.Table.{restTable, guestTable, restDays}
 use Rattle.rest.specs.Wings.{IsWing, outOfWings, tableOf, ofWing}
@@ -38,11 +39,8 @@ pub wing-lent :
     (wing : ℕ) (list buffer : List ℕ) (answer : List ℕ → ListAnswer) (after : List ℕ → List ℕ) →
     Lent (answer (tableOf wing) .refusal) list buffer (after (tableOf wing)) →
     Lent (ofWing wing (noList 15) answer .refusal) list buffer (ofWing wing buffer after)
-wing-lent wing list buffer answer after lent = go (outOfWings wing)
-  where
-    go : (out : Bool) → Lent (cond out (noList 15) (answer (tableOf wing)) .refusal) list buffer (cond out buffer (after (tableOf wing)))
-    go true = record { untouched = λ _. refl; written = λ e. absurd (omega arith) }
-    go false = lent
+wing-lent wing list buffer answer after lent =
+    lent-unless (λ (r : ListAnswer). r .refusal) (outOfWings wing) (noList 15) (answer (tableOf wing)) list buffer (after (tableOf wing)) (omega arith) lent
 
 -- How many rest days the wing has.
 pub rest-count : (wing h : ℕ) → length (restDays (tableOf wing) h) ≡ restCount wing

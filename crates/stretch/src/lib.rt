@@ -9,6 +9,12 @@ mod runs;
 ghost use mathlib.Core.Path.{_≡_};
 ghost use Prim.Native.Nat.{_≤_};
 ghost use lib.IntN.{subℕ};
+ghost use lib.ListN.{length as ListN·length};
+ghost use Rattle.laws.specs.Buffer.{overwrite};
+ghost use Rattle.newyear.specs.Spans.{Spans};
+ghost use Rattle.rest.specs.Wings.{tableOf};
+ghost use Rattle.stretch.specs.Stretches.{stretchRows};
+ghost use Rattle.stretch.specs.Promises.{stretchesRoom};
 ghost use Rattle.stretch.specs.Answers.{noStretch, wingStretch, wingStretches, wingStretchesBuffer};
 
 #[repr(C)]
@@ -65,7 +71,18 @@ pub fn stretch(wing: u64, day: u64) -> StretchAnswer
 }
 
 // The most entries that the stretches of a year take, in either wing.
-const STRETCHES_ROOM: usize = 120;
+pub const STRETCHES_ROOM: usize = 120;
+
+// A step, for the years 1 to 9999: first day and length of each stretch that begins in the year, over the start of a buffer
+// that has room for those of any year; and how many entries they take.
+pub fn year_rows(wing: u64, span: newyear::Span, out: &mut [u64]) -> usize
+    requires { ⌜ (Spans (span .year) span) × (stretchesRoom ≤ ListN·length (now out)) ⌝ }
+    ensures { λ r. ⌜ (r ≡ ListN·length (stretchRows (tableOf wing) (span .year))) × ((r ≤ stretchesRoom)
+        × (now (out .exit) ≡ overwrite (now (out .entry)) (stretchRows (tableOf wing) (span .year)))) ⌝ }
+{
+    let weekday = days::weekday_of(span.new_year);
+    lists::write_rows(wing, weekday, span.new_year, span.length, out)
+}
 
 // First day and length of each stretch that begins in the year, rising, two entries each. Refusal 15 for a wing that is
 // neither 1 nor 2; 1 for a year outside 1..9999; 10 for a buffer that is too short, telling how many entries are wanted;
@@ -77,10 +94,8 @@ pub fn stretches(wing: u64, year: u64, out: &mut [u64]) -> rest::ListAnswer
     if refusal != 0 {
         return rest::no_list(refusal);
     }
-    let span = newyear::year_span(year);
-    let weekday = days::weekday_of(span.new_year);
     let mut rows = [0u64; STRETCHES_ROOM];
-    let wanted = lists::write_rows(wing, weekday, span.new_year, span.length, &mut rows);
+    let wanted = year_rows(wing, newyear::year_span(year), &mut rows);
     if out.len() < wanted {
         return rest::ListAnswer {
             refusal: 10,

@@ -1,12 +1,11 @@
 use borrow.Author.Needs.{needs}
-use mathlib.Core.Path.{_≡_, subst, sym, _∙_}
+use mathlib.Core.Path.{_≡_, sym, _∙_}
 use mathlib.Core.Bool.{false}
-use Prim.Native.Nat.{ℕ}
 use borrow.Author.Tests.{lt-ltb, le-ltb}
 use lib.ListN.{length}
 use Rattle.laws.proofs.Tests.{within}
 use Rattle.molad.specs.Years.{lastYear, outOfYears}
-use Rattle.newyear.specs.Spans.{Spans}
+use Rattle.newyear.proofs.Spanned.{spans-own}
 use Rattle.rest.specs.Table.{restDays}
 use Rattle.rest.specs.Wings.{outOfWings, tableOf}
 use Rattle.rest.specs.Answers.{listAnswer, listBuffer}
@@ -40,8 +39,7 @@ write-wing-requires : tie.Need-write-wing-requires
 write-wing-requires c κs =
     let y = c .before in
     let t = y .before in
-    let e = y .year-span .ensures in
-    (subst (λ (h : ℕ). Spans h (y .year-span .result)) (sym (e .year)) e, rw (← t .before .rows .ensures) (t .if2 .left))
+    (spans-own _ _ (y .year-span .ensures), rw (← t .before .rows .ensures) (t .if2 .left))
 
 returns-3 : tie.Need-returns-3
 unfolding listAnswer listBuffer

@@ -1,4 +1,4 @@
--- The year's runs are worked out into entries of its own, and copied where there is room.
+-- The year's stretches are worked out into entries of its own, and copied where there is room.
 use borrow.Author.Needs.{needs}
 use mathlib.Core.Path.{_≡_}
 use mathlib.Core.Bool.{false}
@@ -9,16 +9,11 @@ use lib.Seq.{take-append-seam}
 use Rattle.laws.specs.Buffer.{overwrite}
 use Rattle.laws.proofs.Tests.{within}
 use Rattle.molad.specs.Years.{lastYear, outOfYears}
-use Rattle.newyear.specs.Kinds.{kindOf}
-use Rattle.newyear.proofs.Lengths.{kind-in}
+use Rattle.newyear.proofs.Spanned.{spans-own}
 use Rattle.rest.specs.Wings.{outOfWings, tableOf}
-use Rattle.rest.specs.Steps.{restAt}
 use Rattle.rest.specs.Answers.{listAnswer, listBuffer}
-use Rattle.rest.proofs.Passed.{tables-pass}
 use Rattle.rest.proofs.Refused.{list-refused, list-passed}
 use Rattle.stretch.specs.Stretches.{stretchRows}
-use Rattle.stretch.specs.Steps.{rowsAt}
-use Rattle.stretch.proofs.Ended.{stretches-same}
 use Rattle.stretch.proofs.stretches.Statement.{statement}
 use Rattle.stretch.proofs.stretches.Tie as tie
 
@@ -30,38 +25,25 @@ returns c = let t = c .before in list-refused _ _ _ _ _ _ _ (t .before .list-ref
 good : (c : tie.Else1) → let a = c .before .before .before .args in (outOfWings (a .wing) ≡ false) × (outOfYears (a .year) ≡ false)
 good c = list-passed _ _ _ (c .before .list-refusal .ensures) (c .if1 .left)
 
-write-rows-requires : tie.Need-write-rows-requires
-unfolding kindOf
-write-rows-requires c κs =
-    let w = c .before in
-    let y = w .before in
-    let e = y .year-span .ensures in
-    (omega arith, (omega arith, (e .measured, (rw (w .weekday-of .ensures, e .days, e .begins) (kind-in (y .before .before .before .before .args .year) (e .first) (omega (arith, e .last))), omega arith))))
-
 -- What is worked out is the year's list.
 listed :
-    (c : tie.After-write-rows) →
-    let a = c .before .before .before .before .before .before .before .args in
+    (c : tie.After-year-rows) →
+    let a = c .before .before .before .before .before .before .args in
     let list = stretchRows (tableOf (a .wing)) (a .year) in
-    (c .write-rows .result ≡ length list) × (take (c .write-rows .result) (c .write-rows .last .1 .1 .1 .1 .0) ≡ list)
+    (c .year-rows .result ≡ length list) × (take (c .year-rows .result) (c .year-rows .last .1 .1 .0) ≡ list)
 unfolding overwrite
 listed c =
-    let w = c .before .before in
-    let y = w .before in
-    let a = y .before .before .before .before .args in
-    let table = tableOf (a .wing) in
-    let e = y .year-span .ensures in
-    let n = c .write-rows .ensures in
-    let same = rw (← e .days, ← e .begins, ← w .weekday-of .ensures) at (stretches-same (record { table = table; year = a .year; ok = tables-pass (a .wing); low = e .first; high = e .last })) in
-    let rest = restAt table (w .weekday-of .result) (y .year-span .result .length) in
-    let rows = rowsAt rest (y .year-span .result .«new_year») (y .year-span .result .length) in
-    rw (same, n .1 .1) (n .0, rw (n .0) (take-append-seam rows _))
+    let y = c .before .before .year-span .ensures .year in
+    let a = c .before .before .before .before .before .before .args in
+    let n = c .year-rows .ensures in
+    let e : c .year-rows .result ≡ length (stretchRows (tableOf (a .wing)) (a .year)) = rw y at (n .0) in
+    (e, rw (n .1 .1, y, e) (take-append-seam (stretchRows (tableOf (a .wing)) (a .year)) _))
 
 returns-2 : tie.Need-returns-2
 unfolding listAnswer listBuffer
 returns-2 c =
     let r = c .before .before in
-    let g = good (r .before .before .before .before) in
+    let g = good (r .before .before .before) in
     let n = listed r .0 in
     let t = lt-ltb _ _ (c .if2 .taken) in
     (rw (g .0, g .1, ← n, t), rw (g .0, g .1, ← n, t))
@@ -78,7 +60,7 @@ returns-3 c =
     let k = c .before .before in
     let t = k .before .before .before in
     let r = t .before .before in
-    let g = good (r .before .before .before .before) in
+    let g = good (r .before .before .before) in
     let w = listed r in
     let f = le-ltb _ _ (t .if2 .left) in
     (rw (g .0, g .1, ← w .0, f), rw (g .0, g .1, ← w .0, f) (rw (w .1) at (k .copy .ensures)))
@@ -92,8 +74,7 @@ stretches-spec =
     returns
     (λ c κs. within 1 lastYear _ (good c .1))
     (search needs)
-    (search needs)
-    write-rows-requires
+    (λ c κs. (spans-own _ _ (c .before .year-span .ensures), omega arith))
     returns-2
     (search needs)
     (λ c. let w = listed (c .before .before .before) in rw (w .1) (w .0))

@@ -1,0 +1,60 @@
+// Little-endian numbers, and what a sheet is made of, stored into lent bytes at a place that has room for them.
+ghost use mathlib.Core.Path.{_≡_};
+ghost use Prim.Native.Nat.{_+_, _≤_};
+ghost use lib.ListN.{length as ListN·length};
+ghost use lib.Seq.{sets};
+ghost use Rattle.sheet.specs.Sheet.{littleEndian, headerBytes, entryBytes, rowBytes};
+
+fn put_one(out: &mut [u8], at: usize, x: u64)
+    requires { ⌜ at + 1 ≤ ListN·length (now out) ⌝ }
+    ensures { λ _. ⌜ now (out .exit) ≡ sets (now (out .entry)) at (littleEndian 1 x) ⌝ }
+{
+    out[at] = (x % 256) as u8;
+}
+
+fn put_two(out: &mut [u8], at: usize, x: u64)
+    requires { ⌜ at + 2 ≤ ListN·length (now out) ⌝ }
+    ensures { λ _. ⌜ now (out .exit) ≡ sets (now (out .entry)) at (littleEndian 2 x) ⌝ }
+{
+    put_one(out, at, x);
+    put_one(out, at + 1, x / 256);
+}
+
+fn put_four(out: &mut [u8], at: usize, x: u64)
+    requires { ⌜ at + 4 ≤ ListN·length (now out) ⌝ }
+    ensures { λ _. ⌜ now (out .exit) ≡ sets (now (out .entry)) at (littleEndian 4 x) ⌝ }
+{
+    put_two(out, at, x);
+    put_two(out, at + 2, x / 256 / 256);
+}
+
+pub fn put_header(out: &mut [u8], years: u64, first_year: u64, rows: u64)
+    requires { ⌜ (16 ≤ ListN·length (now out)) × (years ≤ 100) ⌝ }
+    ensures { λ _. ⌜ now (out .exit) ≡ sets (now (out .entry)) 0 (headerBytes years «first_year» rows) ⌝ }
+{
+    put_two(out, 0, years);
+    put_two(out, 2, first_year);
+    put_four(out, 4, rows);
+    put_four(out, 8, 16);
+    put_four(out, 12, 16 + 8 * years);
+}
+
+// An entry of the index: where the year's first row stands, how many rows it has, and the year's length in days.
+pub fn put_entry(out: &mut [u8], at: usize, offset: u64, rows: u64, days: u64)
+    requires { ⌜ at + 8 ≤ ListN·length (now out) ⌝ }
+    ensures { λ _. ⌜ now (out .exit) ≡ sets (now (out .entry)) at (entryBytes offset rows days) ⌝ }
+{
+    put_four(out, at, offset);
+    put_two(out, at + 4, rows);
+    put_two(out, at + 6, days);
+}
+
+// A stretch's row: its first day, its length in days, and the wing.
+pub fn put_row(out: &mut [u8], at: usize, wing: u64, first: u64, days: u64)
+    requires { ⌜ at + 6 ≤ ListN·length (now out) ⌝ }
+    ensures { λ _. ⌜ now (out .exit) ≡ sets (now (out .entry)) at (rowBytes wing first days) ⌝ }
+{
+    put_four(out, at, first);
+    put_one(out, at + 4, days);
+    put_one(out, at + 5, wing);
+}
