@@ -1,5 +1,5 @@
 -- What `sheet_write` promises, and that its contract leaves one answer and one state of the lent bytes.
-use mathlib.Core.Path.{_≡_, refl}
+use mathlib.Core.Path.{_≡_, refl, sym, _∙_}
 use mathlib.Core.Bool.{Bool, true, false, cond}
 use mathlib.Core.List.{List, _++_}
 use Prim.Native.Nat.{ℕ, _+_, _-_, _≤_}
@@ -21,6 +21,7 @@ use Rattle.sheet.specs.Sheet.{mostYears, sheetSize, sheet}
 use Rattle.sheet.specs.Answers.{endsOutside, sheetAnswer, sheetBuffer, wingSheet, wingSheetBuffer}
 use Rattle.sheet.specs.Promises.{PromisedSheet, SheetOf}
 use Rattle.sheet.proofs.Sizes.{sheet-long}
+use Rattle.sheet.proofs.ReadBack.{sheet-of}
 
 module _ (wing h years : ℕ) (buffer : List ℕ) where
   room : Catches (ltb (length buffer) (sheetSize wing h years)) (sheetSize wing h years ≤ length buffer)
@@ -47,6 +48,18 @@ module _ (wing h years : ℕ) (buffer : List ℕ) where
       (unless (endsOutside h years) (noList 1) _ list buffer _ (omega arith)
       (unless (ltb (length buffer) (sheetSize wing h years)) (record { refusal = 10; count = sheetSize wing h years }) _ list buffer _ (omega arith)
       (lent-done 0 list buffer refl))))
+
+  -- What stands in the bytes when the call is done: a sheet of these years.
+  pub sheet-given :
+      wingSheet wing h years buffer .refusal ≡ 0 →
+      SheetOf wing h years (take (wingSheet wing h years buffer .count) (wingSheetBuffer wing h years buffer))
+  sheet-given z =
+      let t = sheet-promised in
+      let met = t .done .0 z in
+      let y = met .1 .0 in
+      let ends = met .1 .1 .0 in
+      rw (list-written (sheet wing h years) buffer _ _ _ sheet-lent z (sheet-long wing h years ∙ sym (t .values met)))
+      (sheet-of wing h years (met .0) (y .0) (y .1) (ends .0 .0) (omega (arith, ends .1 .1)))
 
   -- One answer, and one state of the bytes.
   pub sheet-one : (r s : ListAnswer) → r ≡ wingSheet wing h years buffer → s ≡ wingSheet wing h years buffer → r ≡ s

@@ -1,3 +1,6 @@
 pub mod Sizes
 pub mod Years
+pub mod Numbers
+pub mod Pairs
+pub mod ReadBack
 pub mod Answers

@@ -1,0 +1,48 @@
+-- A number that its bytes can hold is read back from them.
+use mathlib.Core.Path.{_≡_, refl, _∙_, ap}
+use mathlib.Core.List.{List, _++_}
+use Prim.Native.Nat.{ℕ, zero, suc, _+_, _*_, _/_, _<_}
+use native.Mathlib.Omega.{arith}
+use lib.ListN.{length, length-append}
+use Rattle.laws.proofs.Joins.{Holds, held-part, holds-in, holds-first, holds-second}
+use Rattle.sheet.specs.Sheet.{littleEndian}
+use Rattle.sheet.specs.Promises.{worth, numberAt}
+
+-- How many numbers n bytes can tell apart.
+abbrev pub capacity : ℕ → ℕ
+capacity zero = 1
+capacity (suc n) = 256 * capacity n
+
+little-long : (n x : ℕ) → length (littleEndian n x) ≡ n
+unfolding littleEndian
+little-long zero x = refl
+little-long (suc n) x = ap suc (little-long n _)
+
+worth-of : (n x : ℕ) → x < capacity n → worth (littleEndian n x) ≡ x
+unfolding littleEndian worth
+worth-of zero x p = omega arith
+worth-of (suc n) x p = rw (worth-of n (x / 256) (omega arith)) (omega arith)
+
+pub read-back : (bytes : List ℕ) (at n x : ℕ) → Holds bytes at (littleEndian n x) → x < capacity n → numberAt bytes at n ≡ x
+unfolding numberAt
+read-back bytes at n x h p = rw (held-part bytes (littleEndian n x) at n h (little-long n x)) (worth-of n x p)
+
+-- Numbers that stand one after another.
+pub holds-left : (bytes a b : List ℕ) (at : ℕ) → Holds bytes at (a ++ b) → Holds bytes at a
+holds-left bytes a b at h = holds-in bytes (a ++ b) a at 0 at h (holds-first a b) (omega arith)
+
+pub holds-right : (bytes a b : List ℕ) (at k : ℕ) → Holds bytes at (a ++ b) → at + length a ≡ k → Holds bytes k b
+holds-right bytes a b at k h e = holds-in bytes (a ++ b) b at (length a) k h (holds-second a b (length a) refl) e
+
+pub three-back :
+    (bytes : List ℕ) (at a b c x y z : ℕ) → Holds bytes at (littleEndian a x ++ littleEndian b y ++ littleEndian c z) →
+    x < capacity a → y < capacity b → z < capacity c →
+    (numberAt bytes at a ≡ x) × ((numberAt bytes (at + a) b ≡ y) × (numberAt bytes (at + (a + b)) c ≡ z))
+three-back bytes at a b c x y z h p q r =
+    let first = littleEndian a x in
+    let second = littleEndian b y in
+    let two = holds-left bytes (first ++ second) (littleEndian c z) at h in
+    let third = holds-right bytes (first ++ second) (littleEndian c z) at (at + (a + b)) h (rw (length-append first second, little-long a x, little-long b y)) in (
+      read-back bytes at a x (holds-left bytes first second at two) p,
+      (read-back bytes (at + a) b y (holds-right bytes first second at (at + a) two (rw (little-long a x))) q, read-back bytes (at + (a + b)) c z third r),
+    )
