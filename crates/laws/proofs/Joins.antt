@@ -51,6 +51,12 @@ total-grows f m (suc n) p =
     (λ q. rw q (omega arith))
     (λ q. omega (arith, total-grows f m n (omega arith)))
 
+-- The first m, and the n behind them.
+pub total-split : (f : ℕ → ℕ) (m n : ℕ) → total f (m + n) ≡ total f m + total (λ i. f (m + i)) n
+unfolding total
+total-split f m zero = let e : m + 0 ≡ m = omega arith in rw e (omega arith)
+total-split f m (suc n) = let e : m + suc n ≡ suc (m + n) = omega arith in rw (e, total-split f m n) (omega arith)
+
 -- Rows that agree are one.
 pub joined-alike : (f g : ℕ → List ℕ) (n : ℕ) → ((i : ℕ) → i < n → f i ≡ g i) → joined f n ≡ joined g n
 unfolding joined

@@ -4,3 +4,4 @@ pub mod Numbers
 pub mod Pairs
 pub mod ReadBack
 pub mod Answers
+pub mod Room

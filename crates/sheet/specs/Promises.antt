@@ -71,6 +71,10 @@ PromisedSheet wing h years buffer =
     Promised (λ (r : ListAnswer). r .refusal) (IsWing wing else 15 ∷ askedOfSheet wing h years buffer)
     (λ r. r .count ≡ sheetSize wing h years) (λ n r. r .count ≡ cond (eqb n 10) (sheetSize wing h years) 0)
 
+-- The most bytes that a sheet of the wing takes.
+abbrev pub mostBytes : ℕ → ℕ
+mostBytes wing = cond (eqb wing 1) 34650 34098
+
 -- Bytes enough for any sheet, of either wing: the header's BD_SHEET_ROOM.
 abbrev pub sheetRoom : ℕ
 sheetRoom = 34650
