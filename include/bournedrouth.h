@@ -3,8 +3,8 @@
  *
  * Every call is a question with one answer. An answer is a struct whose first number is the refusal: BD_DONE (0), or
  * why there is no answer. Every other number of a refused answer is 0, but that BD_BUFFER_TOO_SHORT also tells how many
- * entries are wanted. No call keeps anything, waits, allocates or stops the program; any number may be asked, and calls
- * may be made from several threads at once.
+ * entries or bytes are wanted. No call keeps anything, waits, allocates or stops the program; any number may be asked,
+ * and calls may be made from several threads at once.
  *
  * A day is a Julian Day Number. A Hebrew day has the number of the civil day that holds its daylight; it begins the
  * evening before, for the calendar's arithmetic at 18:00. Civil years are signed and there is a year 0: 3761 BCE is
@@ -15,10 +15,11 @@
  *     the civil day, from sunset on for the day after, that number plus 1. A panel that changes the day at midnight is
  *     hours late, with putting the bank on the load and with taking it off.
  *   - The wing. 1 and 2 are both good: a panel that names the other wing is told of the other wing's rest days.
- *   - A pointer must be valid and aligned for uint64_t. Where the length given with it is 0 it may be NULL: it is proved
- *     that no entry is touched then, and seen in the archive's code and tested for every year that no more is asked of
- *     the pointer.
- *   - A length must be true: at least so many numbers stand at the pointer, and nobody else uses them during the call.
+ *   - A pointer must be valid and, if it is to numbers, aligned for uint64_t; bytes may begin anywhere. Where the length
+ *     given with it is 0 it may be NULL: it is proved that no entry and no byte is touched then, and seen in the
+ *     archive's code and tested, for the lists of every year and for sheets, that no more is asked of the pointer.
+ *   - A length must be true: at least so many numbers, or bytes, stand at the pointer, and nobody else uses them during
+ *     the call.
  *   - Every number is passed as 64 bits. These declarations see to that. A number that was cut before it came here
  *     arrives as another number, and may be a good one.
  *   - Look at the refusal first. Of all refusals only BD_NO_STRETCH means that the bank is off the load; after any
@@ -37,14 +38,17 @@
  * was built with an earlier minor version builds and is answered as it was. A minor version adds.
  */
 #define BD_VERSION_MAJOR 4
-#define BD_VERSION_MINOR 0
-#define BD_VERSION "4.0"
+#define BD_VERSION_MINOR 1
+#define BD_VERSION "4.1"
 
 #ifdef __cplusplus
 extern "C" {
 #endif
 
-/* Why there is no answer. Where several apply, BD_BAD_WING comes before all others, and else the smallest is given. */
+/*
+ * Why there is no answer. Where several apply, BD_BAD_WING comes before all others, then BD_BAD_YEAR_COUNT, and else
+ * the smallest is given: each call below has its refusals in that order.
+ */
 enum bd_refusal {
     BD_DONE = 0,                    /* there is an answer */
     BD_BAD_YEAR = 1,                /* Hebrew year outside 1..9999 (1..10,000 for bd_new_year and bd_new_year_rhodes) */
@@ -56,7 +60,8 @@ enum bd_refusal {
     BD_BAD_CIVIL_DAY = 7,           /* civil day outside its month */
     BD_CIVIL_DATE_OUT_OF_RANGE = 8, /* a good civil date whose day lies outside the range */
     BD_NO_STRETCH = 9,              /* no stretch in range ends on or after the day */
-    BD_BUFFER_TOO_SHORT = 10,       /* the lent buffer has no room for the list */
+    BD_BUFFER_TOO_SHORT = 10,       /* the lent buffer has no room for the list or the sheet */
+    BD_BAD_YEAR_COUNT = 11,         /* years of a sheet not 1..100 */
     BD_BAD_WING = 15                /* wing neither 1 nor 2 */
 };
 
@@ -278,8 +283,9 @@ typedef struct bd_stretch_answer {
 } bd_stretch_answer;
 
 /*
- * What a list tells. The count has two units: how many rest days or stretches were written or, with
- * BD_BUFFER_TOO_SHORT, how many entries of the buffer are wanted. NULL and 0 ask for the room:
+ * What a list or a sheet tells. A list's count has two units: how many rest days or stretches were written or, with
+ * BD_BUFFER_TOO_SHORT, how many entries of the buffer are wanted. A sheet's count is bytes, written or wanted. NULL and
+ * 0 ask for the room:
  *
  *     bd_list_answer room = bd_stretches(BD_WING_1, 5762, NULL, 0);  // BD_BUFFER_TOO_SHORT, and a count of 112 entries
  *     uint64_t *out = malloc(room.count * sizeof *out);
@@ -316,6 +322,41 @@ bd_list_answer bd_rest_days(uint64_t wing, uint64_t year, uint64_t *out, size_t 
  * the list stay as they were. The call keeps 120 entries of its own, 960 bytes, on the stack.
  */
 bd_list_answer bd_stretches(uint64_t wing, uint64_t year, uint64_t *out, size_t length);
+
+/* ---- Sheets ---- */
+
+/*
+ * A sheet, as the panels load it, holds a wing's stretches of 1 to 100 years: a header, an index with an entry for each
+ * year, and a row for each stretch that begins in one of them. Rows run by year and rise. Nothing stands between these
+ * or behind the last row. Numbers are little-endian, and offsets count from the sheet's first byte:
+ *
+ *     Header, 16 bytes        0..1   the count of years
+ *                             2..3   the first year
+ *                             4..7   the count of rows
+ *                             8..11  the offset of the index, always 16
+ *                            12..15  the offset of the rows, 16 + 8 x years
+ *     Index entry, 8 bytes    0..3   the offset of the year's first row
+ *                             4..5   the count of its rows
+ *                             6..7   the year's length in days
+ *     Row, 6 bytes            0..3   the day number of the stretch's first day
+ *                             4      the stretch's length: 1, 2 or 3 days
+ *                             5      the wing
+ */
+
+/*
+ * The most years that a sheet holds, and the most bytes that any sheet takes: 34,650, for 100 years with 5,639 rows, in
+ * wing 1, and 34,098 in the guest wing.
+ */
+#define BD_SHEET_YEARS 100
+#define BD_SHEET_ROOM 34650
+
+/*
+ * Writes a wing's sheet of so many years, from the first year on, and tells how many bytes were written or, with
+ * BD_BUFFER_TOO_SHORT, are wanted. Refusals: 15, 11, 1 if the first or the last year is outside, 10. A refused call
+ * leaves all bytes as they were; otherwise the bytes beyond the sheet stay as they were. The call keeps 120 entries of
+ * its own, 960 bytes, on the stack, for a year's stretches at a time.
+ */
+bd_list_answer bd_sheet_write(uint64_t wing, uint64_t first_year, uint64_t years, uint8_t *out, size_t length);
 
 #ifdef __cplusplus
 }

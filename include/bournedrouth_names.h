@@ -57,8 +57,9 @@ static inline const char *bd_refusal_name(uint64_t refusal)
         "the civil month has no such day",
         "the civil date is before 1 Tishri 1 or after 29 Elul 9999",
         "no stretch of rest days is left in the calendar's range",
-        "the buffer is too short for the list",
-        "?", "?", "?", "?", /* 11 to 14 are no refusals */
+        "the buffer is too short for the list or the sheet",
+        "the count of years is outside 1 to 100",
+        "?", "?", "?", /* 12 to 14 are no refusals */
         "the wing is neither 1 nor 2",
     };
     return bd_name_at(names, sizeof names / sizeof *names, refusal);

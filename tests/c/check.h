@@ -13,6 +13,9 @@
 /* What no call may write over. */
 #define GUARD UINT64_C(0xA5C35AE1D00DBEEF)
 
+/* Numbers that are no wing: those beside the good ones, some whose low half is a good number, and the largest. */
+extern const uint64_t BAD_WINGS[5];
+
 void begin(const char *group);
 void end(void);
 /* Names what the next checks ask, as `bd_molad(5762, 1)`. */
@@ -30,5 +33,6 @@ void hebrew_dates(void);
 void rest_days(void);
 void every_year(void);
 void every_day(void);
+void sheets(void);
 
 #endif

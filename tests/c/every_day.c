@@ -7,7 +7,7 @@
 
 #include "walk.h"
 
-enum { FIRST = 347998, LAST = 4000075, MOST_DAYS = 385, WINGS = 2 };
+enum { FIRST = 347998, LAST = 4000075 };
 
 static unsigned char rests[WINGS + 1][LAST - FIRST + 2]; /* by the wing's number; the day after the last is none */
 
@@ -146,10 +146,9 @@ static void list_of_kind(uint64_t wing, uint64_t year, const uint64_t *list, uin
     }
 }
 
-/* A year's stretches in a wing, found in the days that rest, against its list. */
-static uint64_t year_lists(uint64_t wing, uint64_t year)
+uint64_t find_stretches(uint64_t wing, uint64_t year, uint64_t list[2 * MOST_DAYS])
 {
-    uint64_t out[BD_STRETCHES_ROOM], list[2 * MOST_DAYS], n = 0; /* a stretch on every day would find room */
+    uint64_t n = 0;
     for (uint64_t day = new_year_of(year); day < new_year_of(year + 1); ++day) {
         if (!rests[wing][day - FIRST]) continue;
         if (n > 0 && list[n - 2] + list[n - 1] == day) {
@@ -159,6 +158,13 @@ static uint64_t year_lists(uint64_t wing, uint64_t year)
         list[n++] = day;
         list[n++] = 1;
     }
+    return n;
+}
+
+/* A year's stretches in a wing, found in the days that rest, against its list. */
+static uint64_t year_lists(uint64_t wing, uint64_t year)
+{
+    uint64_t out[BD_STRETCHES_ROOM], list[2 * MOST_DAYS], n = find_stretches(wing, year, list);
     asking("bd_stretches(%" PRIu64 ", %" PRIu64 ", out, %d)", wing, year, BD_STRETCHES_ROOM);
     same("entries beyond BD_STRETCHES_ROOM", n > BD_STRETCHES_ROOM ? n - BD_STRETCHES_ROOM : 0, 0);
     bd_list_answer got = bd_stretches(wing, year, out, BD_STRETCHES_ROOM);

@@ -6,6 +6,8 @@
 
 #include "check.h"
 
+const uint64_t BAD_WINGS[] = {0, 3, (UINT64_C(1) << 32) + 1, (UINT64_C(1) << 32) + 2, UINT64_MAX};
+
 static const char *group_name;
 static char question[120];
 static unsigned long checks;
@@ -65,5 +67,6 @@ int main(void)
     rest_days();
     every_year();
     every_day();
+    sheets();
     return 0;
 }

@@ -57,12 +57,13 @@ static void refusals(void)
         [BD_BAD_CIVIL_DAY] = "the civil month has no such day",
         [BD_CIVIL_DATE_OUT_OF_RANGE] = "the civil date is before 1 Tishri 1 or after 29 Elul 9999",
         [BD_NO_STRETCH] = "no stretch of rest days is left in the calendar's range",
-        [BD_BUFFER_TOO_SHORT] = "the buffer is too short for the list",
+        [BD_BUFFER_TOO_SHORT] = "the buffer is too short for the list or the sheet",
+        [BD_BAD_YEAR_COUNT] = "the count of years is outside 1 to 100",
         [BD_BAD_WING] = "the wing is neither 1 nor 2",
     };
     asking("the refusals");
     same("count", COUNT(want), 16);
-    for (uint64_t refusal = 0; refusal < COUNT(want); ++refusal) /* 11 to 14 have no name */
+    for (uint64_t refusal = 0; refusal < COUNT(want); ++refusal) /* 12 to 14 have no name */
         same_text("name", bd_refusal_name(refusal), want[refusal] != NULL ? want[refusal] : "?");
     same_text("no name", bd_refusal_name(COUNT(want)), "?");
     for (size_t i = 0; i < COUNT(BEYOND); ++i) same_text("no name", bd_refusal_name(BEYOND[i]), "?");

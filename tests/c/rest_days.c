@@ -67,7 +67,6 @@ static const uint64_t GUEST_STRETCHES_5775[] = {
 };
 
 /* What is refused: the numbers beside the good ones, some whose low half is a good number, and the largest. */
-static const uint64_t BAD_WINGS[] = {0, 3, (UINT64_C(1) << 32) + 1, (UINT64_C(1) << 32) + 2, UINT64_MAX};
 static const uint64_t BAD_DAYS[] = {0, BD_FIRST_DAY - 1, BD_LAST_DAY + 1, (UINT64_C(1) << 32) + 2456928, UINT64_MAX};
 static const uint64_t BAD_YEARS[] = {0, 10000, (UINT64_C(1) << 32) + 5762, UINT64_MAX};
 

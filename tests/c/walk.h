@@ -1,10 +1,10 @@
-/* What the walk over years leaves for the walk over days. */
+/* What the walk over years leaves for the walk over days, and both for the sheets. */
 #ifndef WALK_H
 #define WALK_H
 
 #include <stdint.h>
 
-enum { YEARS = 9999, KINDS = 14 };
+enum { YEARS = 9999, KINDS = 14, WINGS = 2, MOST_DAYS = 385 };
 
 int leap(uint64_t year);
 /* 1 to 10,000. */
@@ -14,5 +14,10 @@ uint64_t year_length(uint64_t year);
 uint64_t kind_of(uint64_t year);
 /* The first year of a kind. */
 uint64_t first_of_kind(uint64_t kind);
+/*
+ * Leaves first day and length of each stretch of a wing that begins in a year, 1 to 9999, rising, and returns how many
+ * entries that is. A stretch on every day would find room.
+ */
+uint64_t find_stretches(uint64_t wing, uint64_t year, uint64_t list[2 * MOST_DAYS]);
 
 #endif

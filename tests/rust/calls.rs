@@ -68,6 +68,7 @@ extern "C" {
     fn bd_month_length(year: u64, month: u64) -> Pair;
     fn bd_stretch(wing: u64, day: u64) -> Stretch;
     fn bd_stretches(wing: u64, year: u64, out: *mut u64, length: usize) -> Pair;
+    fn bd_sheet_write(wing: u64, first_year: u64, years: u64, out: *mut u8, length: usize) -> Pair;
 }
 
 const HOUR: u64 = 1080;
@@ -241,8 +242,9 @@ fn dates(year: u64, new_year: u64, length: u64, rest: &mut Vec<(u64, u64)>) -> u
     length
 }
 
-/// A year's stretches in a wing, as a list and day by day. The days of `rest` are those of this year, rising.
-fn stretches(wing: u64, year: u64, new_year: u64, rest: &[(u64, u64)]) {
+/// A year's stretches in a wing, as a list and day by day; returns them, first day and length of each. The days of `rest`
+/// are those of this year, rising.
+fn stretches(wing: u64, year: u64, new_year: u64, rest: &[(u64, u64)]) -> Vec<(u64, u64)> {
     let mut runs: Vec<(u64, u64)> = Vec::new();
     for &(day, _) in rest.iter().filter(|&&(_, from)| from <= wing) {
         match runs.last_mut() {
@@ -258,7 +260,7 @@ fn stretches(wing: u64, year: u64, new_year: u64, rest: &[(u64, u64)]) {
     let beyond = &out[list.len()..];
     assert!(beyond.iter().all(|&entry| entry == u64::MAX), "stretches of {year}, wing {wing}: an entry beyond the list");
     let mut day = new_year;
-    for (first, length) in runs {
+    for &(first, length) in &runs {
         while day < first + length {
             let got = unsafe { bd_stretch(wing, day) };
             let want = (0, first, length, first as i64 - day as i64);
@@ -266,6 +268,35 @@ fn stretches(wing: u64, year: u64, new_year: u64, rest: &[(u64, u64)]) {
             day += 1;
         }
     }
+    runs
+}
+
+/// A wing's sheet, byte by byte, of years that are told as length and stretches; returns how many bytes it has.
+fn sheet(wing: u64, first_year: u64, years: &[(u64, Vec<(u64, u64)>)]) -> usize {
+    let count = years.len() as u64;
+    let rows = years.iter().map(|(_, runs)| runs.len() as u64).sum();
+    let mut offset = 16 + 8 * count;
+    let mut want = Vec::new();
+    let mut put = |fields: &[(u64, usize)]| {
+        for &(number, bytes) in fields {
+            want.extend_from_slice(&number.to_le_bytes()[..bytes]);
+        }
+    };
+    put(&[(count, 2), (first_year, 2), (rows, 4), (16, 4), (offset, 4)]);
+    for (length, runs) in years {
+        put(&[(offset, 4), (runs.len() as u64, 2), (*length, 2)]);
+        offset += 6 * runs.len() as u64;
+    }
+    for &(first, length) in years.iter().flat_map(|(_, runs)| runs) {
+        put(&[(first, 4), (length, 1), (wing, 1)]);
+    }
+    let mut out = vec![u8::MAX; want.len() + 10];
+    let got = unsafe { bd_sheet_write(wing, first_year, count, out.as_mut_ptr(), out.len()) };
+    let name = format!("sheet of {count} years from {first_year}, wing {wing}");
+    assert_eq!((got.refusal, got.number), (0, want.len() as u64), "{name}");
+    assert_eq!(out[..want.len()], want, "{name}");
+    assert!(out[want.len()..].iter().all(|&byte| byte == u8::MAX), "{name}: a byte beyond it");
+    want.len()
 }
 
 /// A bad wing is refused before a good year or day, and before a bad one.
@@ -277,6 +308,8 @@ fn bad_wings() {
             assert_eq!(got, (15, 0, 0, 0), "stretch for {number}, wing {wing}");
             let got = unsafe { bd_stretches(wing, number, std::ptr::null_mut(), 0) };
             assert_eq!((got.refusal, got.number), (15, 0), "stretches of {number}, wing {wing}");
+            let got = unsafe { bd_sheet_write(wing, number, number, std::ptr::null_mut(), 0) };
+            assert_eq!((got.refusal, got.number), (15, 0), "sheet of {number} years from {number}, wing {wing}");
         }
     }
 }
@@ -287,14 +320,20 @@ fn main() {
     println!("Rust calls: every month's notice: {} answers", notices(&years));
     println!("Rust calls: every year's kind: {} kinds", kinds(&years));
     let mut days = 0;
+    let mut told = [Vec::new(), Vec::new()];
     for (year, pair) in (1u64..).zip(years.windows(2)) {
         let (new_year, next) = (pair[0].day, pair[1].day);
         let mut rest = Vec::new();
         days += dates(year, new_year, next - new_year, &mut rest);
-        for wing in [1, 2] {
-            stretches(wing, year, new_year, &rest);
+        for (wing, told) in (1u64..).zip(&mut told) {
+            told.push((next - new_year, stretches(wing, year, new_year, &rest)));
         }
     }
     bad_wings();
     println!("Rust calls: Hebrew dates, months and both wings' stretches: {days} days");
+    let mut bytes = 0;
+    for (wing, told) in (1u64..).zip(&told) {
+        bytes += sheet(wing, 5787, &told[5786..][..20]) + sheet(wing, 9900, &told[9899..]);
+    }
+    println!("Rust calls: two sheets of each wing: {bytes} bytes");
 }

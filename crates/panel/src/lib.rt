@@ -3,11 +3,12 @@
 // Each export asks the crate that owns its question, passes every number on as it came and gives that crate's answer
 // back, so its contract is that crate's own equation, and the equation's law of one result is shown there. Nothing is
 // decided here. An answer is a struct of 64-bit numbers that begins with the refusal number; a list goes into numbers
-// that the caller lends, a pointer and then how many. `include/bournedrouth.h` says the same to C.
+// that the caller lends, and a sheet into bytes: a pointer and then how many. `include/bournedrouth.h` says the same to C.
 mod civil_dates;
 mod hebrew_dates;
 mod new_years;
 mod rest_days;
+mod sheets;
 
 pub use civil_dates::bd_day_to_gregorian;
 pub use civil_dates::bd_day_to_julian;
@@ -27,3 +28,4 @@ pub use new_years::bd_year_of_day;
 pub use rest_days::bd_rest_days;
 pub use rest_days::bd_stretch;
 pub use rest_days::bd_stretches;
+pub use sheets::bd_sheet_write;

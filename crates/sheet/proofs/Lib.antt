@@ -1,6 +1,5 @@
 pub mod Sizes
 pub mod Years
-pub mod Numbers
 pub mod Pairs
 pub mod ReadBack
 pub mod Answers

@@ -8,6 +8,9 @@ use lib.ListN.{length, getD}
 use Rattle.laws.specs.Joined.{joined, total}
 use Rattle.laws.proofs.Joins.{Holds, holds-in, holds-first, holds-second, holds-each, joined-alike, total-alike, total-most}
 use Rattle.days.specs.Range.{lastDay}
+use Rattle.layout.specs.Layout.{littleEndian, indexOffset, rowsOffset, headerBytes, entryBytes, rowBytes}
+use Rattle.layout.specs.Reading.{numberAt}
+use Rattle.layout.proofs.Sizes.{header-long}
 use Rattle.molad.specs.Years.{InYears}
 use Rattle.newyear.specs.NewYear.{yearLength}
 use Rattle.newyear.proofs.Lengths.{length-in}
@@ -20,10 +23,10 @@ use Rattle.stretch.specs.Promises.{StretchesOf}
 use Rattle.stretch.proofs.WholeList.{stretches-of, two-each}
 use Rattle.stretch.proofs.OfKind.{few, most-in-room}
 use Rattle.stretch.proofs.Answers.{either-wing}
-use Rattle.sheet.specs.Sheet.{littleEndian, mostYears, indexOffset, rowsOffset, headerBytes, entryBytes, rowBytes, rowOf, rowsIn, yearRows, rowsBefore, sheetSize, entryOf, sheet}
-use Rattle.sheet.specs.Promises.{numberAt, offsetTold, rowsTold, lengthTold, rowsToldBefore, stretchesTold, SheetOf}
-use Rattle.sheet.proofs.Sizes.{header-long, rows-long, index-long, years-long, front-long, sheet-long}
-use Rattle.sheet.proofs.Numbers.{read-back, three-back, holds-left, holds-right}
+use Rattle.sheet.specs.Sheet.{mostYears, rowOf, rowsIn, yearRows, rowsBefore, sheetSize, entryOf, sheet}
+use Rattle.sheet.specs.Promises.{offsetTold, rowsTold, lengthTold, rowsToldBefore, stretchesTold, SheetOf}
+use Rattle.sheet.proofs.Sizes.{rows-long, index-long, years-long, front-long, sheet-long}
+use Rattle.layout.proofs.Numbers.{read-back, three-back, holds-left, holds-right}
 use Rattle.sheet.proofs.Pairs.{pairAt, pairs-joined, pair-listed}
 
 -- A year has at most 60 rows.

@@ -6,19 +6,9 @@ use native.Mathlib.Omega.{arith}
 use lib.ListN.{length, length-append}
 use Rattle.laws.specs.Joined.{joined, total}
 use Rattle.laws.proofs.Joins.{joined-length, total-same, total-times}
-use Rattle.sheet.specs.Sheet.{littleEndian, rowsOffset, headerBytes, entryBytes, rowBytes, rowOf, rowsIn, yearRows, rowsBefore, sheetSize, entryOf, sheet}
-
-pub header-long : (years first rows : ℕ) → length (headerBytes years first rows) ≡ 16
-unfolding headerBytes littleEndian
-header-long years first rows = refl
-
-entry-long : (offset rows days : ℕ) → length (entryBytes offset rows days) ≡ 8
-unfolding entryBytes littleEndian
-entry-long offset rows days = refl
-
-row-long : (wing first days : ℕ) → length (rowBytes wing first days) ≡ 6
-unfolding rowBytes littleEndian
-row-long wing first days = refl
+use Rattle.layout.specs.Layout.{rowsOffset, headerBytes}
+use Rattle.layout.proofs.Sizes.{header-long, entry-long, row-long}
+use Rattle.sheet.specs.Sheet.{rowOf, rowsIn, yearRows, rowsBefore, sheetSize, entryOf, sheet}
 
 pub rows-long : (wing : ℕ) (list : List ℕ) (n : ℕ) → length (joined (rowOf wing list) n) ≡ 6 * n
 unfolding rowOf

@@ -9,8 +9,10 @@ use Rattle.laws.specs.Joined.{joined, total}
 use Rattle.laws.proofs.Joins.{joined-more, total-more, total-grows}
 use Rattle.laws.specs.Buffer.{overwrite}
 use Rattle.laws.proofs.Stores.{sets-more, sets-three, sets-apart, sets-over}
-use Rattle.sheet.specs.Sheet.{rowsOffset, headerBytes, rowsIn, yearRows, rowsBefore, sheetSize, entryOf, sheet}
-use Rattle.sheet.proofs.Sizes.{header-long, entry-of-long, index-long, years-long, sheet-long}
+use Rattle.layout.specs.Layout.{rowsOffset, headerBytes}
+use Rattle.layout.proofs.Sizes.{header-long}
+use Rattle.sheet.specs.Sheet.{rowsIn, yearRows, rowsBefore, sheetSize, entryOf, sheet}
+use Rattle.sheet.proofs.Sizes.{entry-of-long, index-long, years-long, sheet-long}
 
 module _ (wing h : ℕ) where
   pub rows-more : (i : ℕ) → rowsBefore wing h (i + 1) ≡ rowsBefore wing h i + rowsIn wing (h + i)

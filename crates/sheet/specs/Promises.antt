@@ -4,24 +4,16 @@ use mathlib.Core.Bool.{cond}
 use mathlib.Core.List.{List, [], _∷_}
 use Prim.Native.Nat.{ℕ, _+_, _*_, _-_, _≤_, _<_}
 use lib.Dec.{eqb}
-use lib.ListN.{length, take, drop}
+use lib.ListN.{length}
 use Rattle.laws.specs.Joined.{joined, total}
 use Rattle.laws.specs.Promise.{Asked, _else_, Promised}
+use Rattle.layout.specs.Reading.{numberAt}
 use Rattle.molad.specs.Years.{InYears}
 use Rattle.newyear.specs.NewYear.{yearLength}
 use Rattle.rest.specs.Wings.{IsWing, tableOf}
 use Rattle.rest.specs.declared.ListAnswer.{ListAnswer}
 use Rattle.stretch.specs.Promises.{StretchesOf}
 use Rattle.sheet.specs.Sheet.{mostYears, sheetSize}
-
--- The number that bytes stand for, the lowest first: each counts 256 times as much as the one before it.
-unfoldable pub worth : List ℕ → ℕ
-worth [] = 0
-worth (byte ∷ rest) = byte + 256 * worth rest
-
--- The number in the n bytes from a place on.
-unfoldable pub numberAt : List ℕ → ℕ → ℕ → ℕ
-numberAt bytes at n = worth (take n (drop at bytes))
 
 -- What the index tells of the sheet's year i, counted from 0: where its first row stands, how many rows it has, and its
 -- length; and how many rows the years before it have.

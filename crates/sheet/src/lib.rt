@@ -4,7 +4,6 @@
 // each stretch. How many rows there are is told by the years themselves, so that each year's stretches are worked out
 // twice: first to count them, and so to know how many bytes are wanted, then to write them. Nothing is written before it
 // is known that all of it has room.
-mod bytes;
 mod rows;
 
 ghost use mathlib.Core.Path.{_≡_};
@@ -37,7 +36,7 @@ pub fn sheet_write(wing: u64, first_year: u64, years: u64, out: &mut [u8]) -> re
             count: size,
         };
     }
-    bytes::put_header(out, years, first_year, rows);
+    layout::put_header(out, years, first_year, rows);
     rows::write_years(wing, first_year, years, out);
     rest::ListAnswer {
         refusal: 0,

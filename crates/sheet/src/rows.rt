@@ -1,13 +1,12 @@
 // The rows of a sheet, counted and written year by year.
-use crate::bytes::put_entry;
-use crate::bytes::put_row;
 ghost use mathlib.Core.Path.{_≡_};
 ghost use Prim.Native.Nat.{_+_, _*_, _/_, _≤_};
 ghost use lib.ListN.{length as ListN·length};
 ghost use lib.Seq.{sets};
 ghost use Rattle.laws.specs.Joined.{joined};
 ghost use Rattle.newyear.specs.Spans.{Spans};
-ghost use Rattle.sheet.specs.Sheet.{rowsOffset, rowOf, rowsIn, yearRows, rowsBefore, entryOf};
+ghost use Rattle.layout.specs.Layout.{rowsOffset};
+ghost use Rattle.sheet.specs.Sheet.{rowOf, rowsIn, yearRows, rowsBefore, entryOf};
 
 // How many rows the year has.
 fn rows_in(wing: u64, span: newyear::Span) -> u64
@@ -39,7 +38,7 @@ fn write_list(wing: u64, list: &[u64], out: &mut [u8], at: usize)
 {
     let mut k = 0;
     while k < list.len() / 2 {
-        put_row(out, at + 6 * k, wing, list[2 * k], list[2 * k + 1]);
+        layout::put_row(out, at + 6 * k, wing, list[2 * k], list[2 * k + 1]);
         k += 1;
     }
 }
@@ -68,7 +67,7 @@ pub fn write_years(wing: u64, first_year: u64, years: u64, out: &mut [u8])
         let span = newyear::year_span(first_year + i);
         let days = span.length;
         let rows = write_year(wing, span, out, at);
-        put_entry(out, 16 + 8 * i as usize, at as u64, rows as u64, days);
+        layout::put_entry(out, 16 + 8 * i as usize, at as u64, rows as u64, days);
         at += 6 * rows;
         i += 1;
     }

@@ -1,8 +1,8 @@
 use borrow.Author.Needs.{needs}
 use mathlib.Core.Path.{refl}
-use Rattle.sheet.specs.Sheet.{littleEndian}
-use Rattle.sheet.proofs.bytes.put_one.Statement.{statement}
-use Rattle.sheet.proofs.bytes.put_one.Tie as tie
+use Rattle.layout.specs.Layout.{littleEndian}
+use Rattle.layout.proofs.put_one.Statement.{statement}
+use Rattle.layout.proofs.put_one.Tie as tie
 
 returns : tie.Need-returns
 unfolding littleEndian

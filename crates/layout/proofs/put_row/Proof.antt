@@ -1,9 +1,9 @@
 use borrow.Author.Needs.{needs}
 use native.Mathlib.Omega.{arith}
 use Rattle.laws.proofs.Stores.{sets-three}
-use Rattle.sheet.specs.Sheet.{littleEndian, rowBytes}
-use Rattle.sheet.proofs.bytes.put_row.Statement.{statement}
-use Rattle.sheet.proofs.bytes.put_row.Tie as tie
+use Rattle.layout.specs.Layout.{littleEndian, rowBytes}
+use Rattle.layout.proofs.put_row.Statement.{statement}
+use Rattle.layout.proofs.put_row.Tie as tie
 
 returns : tie.Need-returns
 unfolding rowBytes littleEndian

@@ -2,9 +2,9 @@ use borrow.Author.Needs.{needs}
 use mathlib.Core.List.{_++_}
 use native.Mathlib.Omega.{arith}
 use Rattle.laws.proofs.Stores.{sets-more}
-use Rattle.sheet.specs.Sheet.{littleEndian, headerBytes, indexOffset, rowsOffset}
-use Rattle.sheet.proofs.bytes.put_header.Statement.{statement}
-use Rattle.sheet.proofs.bytes.put_header.Tie as tie
+use Rattle.layout.specs.Layout.{littleEndian, headerBytes, indexOffset, rowsOffset}
+use Rattle.layout.proofs.put_header.Statement.{statement}
+use Rattle.layout.proofs.put_header.Tie as tie
 
 returns : tie.Need-returns
 unfolding headerBytes littleEndian

@@ -1,9 +1,13 @@
-// Little-endian numbers, and what a sheet is made of, stored into lent bytes at a place that has room for them.
+// In which bytes does a sheet keep its numbers.
+//
+// Numbers are little-endian, in 1, 2 or 4 bytes: the lowest byte comes first, each next counts 256 times as much. A sheet
+// is made of a header, index entries and rows, each of a few numbers one behind the other. What is stored here goes into
+// lent bytes, at a place that has room for it; what stands elsewhere stays.
 ghost use mathlib.Core.Path.{_≡_};
 ghost use Prim.Native.Nat.{_+_, _≤_};
 ghost use lib.ListN.{length as ListN·length};
 ghost use lib.Seq.{sets};
-ghost use Rattle.sheet.specs.Sheet.{littleEndian, headerBytes, entryBytes, rowBytes};
+ghost use Rattle.layout.specs.Layout.{littleEndian, headerBytes, entryBytes, rowBytes};
 
 fn put_one(out: &mut [u8], at: usize, x: u64)
     requires { ⌜ at + 1 ≤ ListN·length (now out) ⌝ }
@@ -28,6 +32,7 @@ fn put_four(out: &mut [u8], at: usize, x: u64)
     put_two(out, at + 2, x / 256 / 256);
 }
 
+// A step: the header of a sheet of so many years from the first year on, with so many rows.
 pub fn put_header(out: &mut [u8], years: u64, first_year: u64, rows: u64)
     requires { ⌜ (16 ≤ ListN·length (now out)) × (years ≤ 100) ⌝ }
     ensures { λ _. ⌜ now (out .exit) ≡ sets (now (out .entry)) 0 (headerBytes years «first_year» rows) ⌝ }
@@ -39,7 +44,7 @@ pub fn put_header(out: &mut [u8], years: u64, first_year: u64, rows: u64)
     put_four(out, 12, 16 + 8 * years);
 }
 
-// An entry of the index: where the year's first row stands, how many rows it has, and the year's length in days.
+// A step: an entry of the index. It tells where the year's first row stands, how many rows it has, and the year's length in days.
 pub fn put_entry(out: &mut [u8], at: usize, offset: u64, rows: u64, days: u64)
     requires { ⌜ at + 8 ≤ ListN·length (now out) ⌝ }
     ensures { λ _. ⌜ now (out .exit) ≡ sets (now (out .entry)) at (entryBytes offset rows days) ⌝ }
@@ -49,7 +54,7 @@ pub fn put_entry(out: &mut [u8], at: usize, offset: u64, rows: u64, days: u64)
     put_two(out, at + 6, days);
 }
 
-// A stretch's row: its first day, its length in days, and the wing.
+// A step: a stretch's row. It has its first day, its length in days, and the wing.
 pub fn put_row(out: &mut [u8], at: usize, wing: u64, first: u64, days: u64)
     requires { ⌜ at + 6 ≤ ListN·length (now out) ⌝ }
     ensures { λ _. ⌜ now (out .exit) ≡ sets (now (out .entry)) at (rowBytes wing first days) ⌝ }

@@ -5,8 +5,8 @@ use Prim.Native.Nat.{ℕ, zero, suc, _+_, _*_, _/_, _<_}
 use native.Mathlib.Omega.{arith}
 use lib.ListN.{length, length-append}
 use Rattle.laws.proofs.Joins.{Holds, held-part, holds-in, holds-first, holds-second}
-use Rattle.sheet.specs.Sheet.{littleEndian}
-use Rattle.sheet.specs.Promises.{worth, numberAt}
+use Rattle.layout.specs.Layout.{littleEndian}
+use Rattle.layout.specs.Reading.{worth, numberAt}
 
 -- How many numbers n bytes can tell apart.
 abbrev pub capacity : ℕ → ℕ

@@ -1,9 +1,9 @@
 use borrow.Author.Needs.{needs}
 use native.Mathlib.Omega.{arith}
 use Rattle.laws.proofs.Stores.{sets-three}
-use Rattle.sheet.specs.Sheet.{littleEndian, entryBytes}
-use Rattle.sheet.proofs.bytes.put_entry.Statement.{statement}
-use Rattle.sheet.proofs.bytes.put_entry.Tie as tie
+use Rattle.layout.specs.Layout.{littleEndian, entryBytes}
+use Rattle.layout.proofs.put_entry.Statement.{statement}
+use Rattle.layout.proofs.put_entry.Tie as tie
 
 returns : tie.Need-returns
 unfolding entryBytes littleEndian
