@@ -23,18 +23,29 @@ loop-holds : tie.Need-loop-holds Inv-loop μ-loop
 unfolding joined
 loop-holds c = (omega arith, refl, refl)
 
-loop-again : tie.Need-loop-again Inv-loop μ-loop
+-- With its row stored, one stretch more is on the bytes.
+one-more :
+    (c : tie.After-put-row Inv-loop μ-loop) →
+    let l = c .before .before .before .before .before in
+    let a = l .before .before .before .args in
+    c .put-row .last .0 ≡ sets (a .out .now) (a .at) (joined (rowOf (a .wing) (a .list .now)) (l .loop .k + 1))
 unfolding rowOf
+one-more c =
+    let l = c .before .before .before .before .before in
+    let a = l .before .before .before .args in
+    let k = l .loop .k in
+    let row = rowOf (a .wing) (a .list .now) in
+    c .put-row .ensures
+    ∙ rw (l .loop .inv .2, joined-more row k)
+    (sets-more (a .out .now) (joined row k) (row k) (a .at) (a .at + 6 * k) (omega (arith, rows-long (a .wing) (a .list .now) k)))
+
+loop-again : tie.Need-loop-again Inv-loop μ-loop
 loop-again c =
     let p = c .before .before in
     let l = p .before .before .before .before .before in
     let a = l .before .before .before .args in
-    let k = l .loop .k in
-    let row = rowOf (a .wing) (a .list .now) in
-    let stored : p .put-row .last .0 ≡ sets (a .out .now) (a .at) (joined row (k + 1)) =
-    p .put-row .ensures ∙ rw (l .loop .inv .2, joined-more row k) (sets-more (a .out .now) (joined row k) (row k) (a .at) (a .at + 6 * k) (omega (arith, rows-long (a .wing) (a .list .now) k)))
-    in
-    (omega arith, rw stored (length-sets (a .out .now) (a .at) (joined row (k + 1))), stored)
+    let stored = one-more p in
+    (omega arith, rw stored (length-sets (a .out .now) (a .at) (joined (rowOf (a .wing) (a .list .now)) (l .loop .k + 1))), stored)
 
 returns : tie.Need-returns Inv-loop μ-loop
 returns c =

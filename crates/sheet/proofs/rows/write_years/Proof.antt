@@ -34,23 +34,42 @@ room c p =
     let a = c .before .before .args in
     omega (arith, rows-more (a .wing) (a .first-year) (c .loop .i), rows-grow (a .wing) (a .first-year) (c .loop .i + 1) (a .years) (omega arith))
 
-loop-again : tie.Need-loop-again Inv-loop μ-loop
+-- With its rows and its entry stored, one year more is on the bytes.
+one-more :
+    (c : tie.After-put-entry Inv-loop μ-loop) →
+    let l = c .before .before .before .before .before .before .before .before in
+    let a = l .before .before .args in
+    c .put-entry .last .0 ≡ written (a .wing) (a .first-year) (a .years) (a .out .now) (l .loop .i + 1)
 unfolding entryOf
+one-more c =
+    let w = c .before .before .before .before in
+    let y = w .before .before in
+    let l = y .before .before in
+    let a = l .before .before .args in
+    let s = y .year-span .ensures in
+    let n = w .write-year .ensures in
+    let rows = rw (s .year) at (n .0) in
+    c .put-entry .ensures
+    ∙ rw (n .1 .1, l .loop .inv .4, l .loop .inv .1, s .year, s .days, rows)
+    (year-more (a .wing) (a .first-year) (a .years) (l .loop .i) (a .out .now) (y .before .loop-test .taken))
+
+loop-again : tie.Need-loop-again Inv-loop μ-loop
 loop-again c =
     let e = c .before .before in
     let w = e .before .before .before .before in
     let y = w .before .before in
     let l = y .before .before in
     let a = l .before .before .args in
-    let i = l .loop .i in
-    let s = y .year-span .ensures in
     let n = w .write-year .ensures in
-    let rows = rw (s .year) at (n .0) in
-    let more = rows-more (a .wing) (a .first-year) i in
-    let stored : e .put-entry .last .0 ≡ written (a .wing) (a .first-year) (a .years) (a .out .now) (i + 1) =
-    e .put-entry .ensures ∙ rw (n .1 .1, l .loop .inv .4, l .loop .inv .1, s .year, s .days, rows) (year-more (a .wing) (a .first-year) (a .years) i (a .out .now) (y .before .loop-test .taken))
-    in
-    (omega arith, omega (arith, l .loop .inv .1, rows, more), omega (arith, l .loop .inv .2, rows, more, n .1 .0), rw stored (written-long (a .wing) (a .first-year) (a .years) (a .out .now) (i + 1)), stored)
+    let rows = rw (y .year-span .ensures .year) at (n .0) in
+    let more = rows-more (a .wing) (a .first-year) (l .loop .i) in
+    let stored = one-more e in (
+      omega arith,
+      omega (arith, l .loop .inv .1, rows, more),
+      omega (arith, l .loop .inv .2, rows, more, n .1 .0),
+      rw stored (written-long (a .wing) (a .first-year) (a .years) (a .out .now) (l .loop .i + 1)),
+      stored,
+    )
 
 returns : tie.Need-returns Inv-loop μ-loop
 returns c =
