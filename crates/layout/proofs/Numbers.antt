@@ -1,12 +1,17 @@
 -- A number that its bytes can hold is read back from them.
 use mathlib.Core.Path.{_≡_, refl, _∙_, ap}
-use mathlib.Core.List.{List, _++_}
+use mathlib.Core.List.{List, [], _∷_, _++_}
 use Prim.Native.Nat.{ℕ, zero, suc, _+_, _*_, _/_, _<_}
 use native.Mathlib.Omega.{arith}
 use lib.ListN.{length, length-append}
 use Rattle.laws.proofs.Joins.{Holds, held-part, holds-in, holds-first, holds-second}
 use Rattle.layout.specs.Layout.{littleEndian}
 use Rattle.layout.specs.Reading.{worth, numberAt}
+
+-- The lowest byte comes first.
+pub lowest-first : littleEndian 4 (4 + 256 * (3 + 256 * (2 + 256 * 1))) ≡ 4 ∷ 3 ∷ 2 ∷ 1 ∷ []
+unfolding littleEndian
+lowest-first = refl
 
 -- How many numbers n bytes can tell apart.
 abbrev pub capacity : ℕ → ℕ

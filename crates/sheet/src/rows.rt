@@ -23,10 +23,10 @@ pub fn count_rows(wing: u64, first_year: u64, years: u64) -> u64
     ensures { λ r. ⌜ (r ≡ rowsBefore wing «first_year» years) × (r ≤ 60 * years) ⌝ }
 {
     let mut rows = 0;
-    let mut i = 0;
-    while i < years {
-        rows += rows_in(wing, newyear::year_span(first_year + i));
-        i += 1;
+    let mut k = 0;
+    while k < years {
+        rows += rows_in(wing, newyear::year_span(first_year + k));
+        k += 1;
     }
     rows
 }

@@ -111,6 +111,18 @@ returns-5 c =
     let stored = rw (p .put-header .ensures, n .count-rows .ensures .0) at (y .write-years .ensures) in
     (rw (g .wing-good, g .years-good, g .ends-good, wanted n, f), rw (g .wing-good, g .years-good, g .ends-good, f) (stored ∙ all-written (a .wing) (a .first-year) (a .years) (a .out .now) room))
 
+put-header-requires : tie.Need-put-header-requires
+put-header-requires c κs = let l = c .before in (omega (arith, l .if4 .left), small (l .before) .0)
+
+write-years-requires : tie.Need-write-years-requires
+write-years-requires c κs =
+    let p = c .before .before .before in
+    let l = p .before .before in
+    let n = l .before in
+    let g = good (n .before) in
+    let room = rw (n .count-rows .ensures .0) at (l .if4 .left) in
+    (g .from, (g .few, (g .to, rw (p .put-header .ensures) (rw (length-sets _ 0 _) room))))
+
 pub sheet-write-spec : {M : Type 1} → statement M
 sheet-write-spec =
     tie.close
@@ -130,12 +142,7 @@ sheet-write-spec =
     (λ c. let s = small c in record { fits = omega arith })
     (λ c. let s = small c in record { fits = omega arith })
     returns-4
-    (λ c κs. let l = c .before in (omega (arith, l .if4 .left), small (l .before) .0))
-    (λ c κs.
-    let p = c .before .before .before in
-    let l = p .before .before in
-    let n = l .before in
-    let g = good (n .before) in
-    (g .from, (g .few, (g .to, rw (p .put-header .ensures) (rw (length-sets _ 0 _) (rw (n .count-rows .ensures .0) at (l .if4 .left)))))))
+    put-header-requires
+    write-years-requires
     (search needs)
     returns-5)

@@ -11,10 +11,10 @@ use Rattle.sheet.proofs.rows.count_rows.Statement.{statement}
 use Rattle.sheet.proofs.rows.count_rows.Tie as tie
 
 abbrev Inv-loop : tie.InvT-loop
-Inv-loop wing first-year years rows₀ i₀ rows i = (i ≤ years) × (rows ≡ rowsBefore wing first-year i) × (rows ≤ 60 * i)
+Inv-loop wing first-year years rows₀ k₀ rows k = (k ≤ years) × (rows ≡ rowsBefore wing first-year k) × (rows ≤ 60 * k)
 
 abbrev μ-loop : tie.MeasureT-loop
-μ-loop wing first-year years rows₀ i₀ rows i = years - i
+μ-loop wing first-year years rows₀ k₀ rows k = years - k
 
 loop-again : tie.Need-loop-again Inv-loop μ-loop
 unfolding rowsBefore
@@ -24,14 +24,14 @@ loop-again c =
     let a = l .before .args in
     let more = rw (y .year-span .ensures .year) at (c .rows-in .ensures .0) in (
       omega arith,
-      rw (total-more (λ k. rowsIn (a .wing) (a .first-year + k)) (l .loop .i), ← more) (omega (arith, l .loop .inv .1)),
+      rw (total-more (λ k. rowsIn (a .wing) (a .first-year + k)) (l .loop .k), ← more) (omega (arith, l .loop .inv .1)),
       omega (arith, c .rows-in .ensures .1, l .loop .inv .2),
     )
 
 returns : tie.Need-returns Inv-loop μ-loop
 returns c =
     let l = c .before in
-    let q : l .loop .i ≡ l .before .args .years = omega arith in
+    let q : l .loop .k ≡ l .before .args .years = omega arith in
     (rw q at (l .loop .inv .1), rw q at (l .loop .inv .2))
 
 loop-holds : tie.Need-loop-holds Inv-loop μ-loop

@@ -77,6 +77,26 @@ returns c =
     let q : l .loop .i ≡ l .before .before .args .years = omega arith in
     rw q at (l .loop .inv .4)
 
+write-year-requires : tie.Need-write-year-requires Inv-loop μ-loop
+write-year-requires c κs =
+    let y = c .before in
+    let l = y .before .before in
+    let r = room l (y .before .loop-test .taken) in
+    (spans-own _ _ (y .year-span .ensures), rw (y .year-span .ensures .year) (omega (arith, l .loop .inv .1, l .loop .inv .3, l .before .before .pre .1 .1 .1, r)))
+
+put-entry-requires : tie.Need-put-entry-requires Inv-loop μ-loop
+put-entry-requires c κs =
+    let w = c .before .before .before in
+    let l = w .before .before .before .before in
+    rw (w .write-year .ensures .1 .1) (rw (length-sets (l .loop .out) (l .loop .at) _) (omega (arith, l .loop .inv .3, l .before .before .pre .1 .1 .1)))
+
+-- The next year's place is no large number.
+small : tie.Need-add-at-2 Inv-loop μ-loop
+small c =
+    let w = c .before .before .before .before .before .before in
+    let l = w .before .before .before .before in
+    record { fits = omega (arith, l .loop .inv .1, l .loop .inv .2, w .write-year .ensures .1 .0) }
+
 pub write-years-spec : {M : Type 1} → statement M
 write-years-spec =
     tie.close
@@ -88,22 +108,12 @@ write-years-spec =
     loop-holds
     (search needs)
     (λ c κs. omega arith)
-    (λ c κs.
-    let y = c .before in
-    let l = y .before .before in
-    let r = room l (y .before .loop-test .taken) in
-    (spans-own _ _ (y .year-span .ensures), rw (y .year-span .ensures .year) (omega (arith, l .loop .inv .1, l .loop .inv .3, l .before .before .pre .1 .1 .1, r))))
+    write-year-requires
     (search needs)
     (search needs)
-    (λ c κs.
-    let w = c .before .before .before in
-    let l = w .before .before .before .before in
-    rw (w .write-year .ensures .1 .1) (rw (length-sets (l .loop .out) (l .loop .at) _) (omega (arith, l .loop .inv .3, l .before .before .pre .1 .1 .1))))
+    put-entry-requires
     (search needs)
-    (λ c.
-    let w = c .before .before .before .before .before .before in
-    let l = w .before .before .before .before in
-    record { fits = omega (arith, l .loop .inv .1, l .loop .inv .2, w .write-year .ensures .1 .0) })
+    small
     (search needs)
     (search needs)
     loop-again
