@@ -13,7 +13,7 @@ use lib.IntN.{pos, negsuc, subℕ}
 use lib.Signed.{_≤ℤ_}
 use lib.ListN.{length, take}
 use Rattle.laws.specs.Promise.{SmallestAfter}
-use Rattle.laws.specs.Buffer.{Lent}
+use Rattle.laws.specs.Buffer.{Lent, overwrite}
 use Rattle.laws.proofs.One.{one-result}
 use Rattle.laws.proofs.Signed.{minus}
 use Rattle.laws.proofs.Stores.{list-written}
@@ -131,3 +131,11 @@ module _ (wing : ℕ) where
 
   pub stretches-buffer-one : (h : ℕ) (buffer r s : List ℕ) → r ≡ wingStretchesBuffer wing h buffer → s ≡ wingStretchesBuffer wing h buffer → r ≡ s
   stretches-buffer-one h buffer = one-result (wingStretchesBuffer wing h buffer)
+
+  -- And of the step that works out a year's stretches, for the sheet too.
+  pub year-rows-one : (h r s : ℕ) → r ≡ length (stretchRows (tableOf wing) h) → s ≡ length (stretchRows (tableOf wing) h) → r ≡ s
+  year-rows-one h = one-result (length (stretchRows (tableOf wing) h))
+
+  pub year-rows-buffer-one :
+      (h : ℕ) (buffer r s : List ℕ) → r ≡ overwrite buffer (stretchRows (tableOf wing) h) → s ≡ overwrite buffer (stretchRows (tableOf wing) h) → r ≡ s
+  year-rows-buffer-one h buffer = one-result (overwrite buffer (stretchRows (tableOf wing) h))
