@@ -2,15 +2,15 @@
 -- table's order; a day of the year is in the list exactly if its date is in the table; so a rest day is a Saturday or a
 -- day of the list.
 use mathlib.Core.Path.{_≡_, refl}
-use mathlib.Core.Bool.{Bool, true, false, cond}
-use mathlib.Core.List.{List, [], _∷_, _++_}
-use Prim.Native.Nat.{ℕ, _+_, _≤_}
+use mathlib.Core.Bool.{Bool, cond}
+use mathlib.Core.List.{List, [], _∷_}
+use Prim.Native.Nat.{ℕ, _≤_}
 use native.Mathlib.Omega.{arith}
 use borrow.Author.Tests.{ltb-true, ltb-false}
 use lib.Dec.{eqb, ltb}
-use lib.ListN.{length, take, drop}
+use lib.ListN.{length, take}
 use Rattle.laws.specs.Promise.{_else_, Promised, SmallestAfter}
-use Rattle.laws.specs.Buffer.{Lent, overwrite}
+use Rattle.laws.specs.Buffer.{Lent}
 use Rattle.laws.proofs.One.{one-result}
 use Rattle.laws.proofs.Stores.{list-written, lent-done, lent-unless}
 use Rattle.laws.proofs.Promises.{Catches, ranged, asks, answered, smallest-after}

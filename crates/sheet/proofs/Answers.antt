@@ -1,14 +1,12 @@
 -- What `sheet_write` promises, and that its contract leaves one answer and one state of the lent bytes.
 use mathlib.Core.Path.{_≡_, refl, sym, _∙_}
-use mathlib.Core.Bool.{Bool, true, false, cond}
-use mathlib.Core.List.{List, _++_}
+use mathlib.Core.List.{List}
 use Prim.Native.Nat.{ℕ, _+_, _-_, _≤_}
 use native.Mathlib.Omega.{arith}
 use borrow.Author.Tests.{ltb-true, ltb-false}
 use lib.Dec.{ltb}
-use lib.ListN.{length, take, drop}
-use Rattle.laws.specs.Promise.{Promised}
-use Rattle.laws.specs.Buffer.{Lent, overwrite}
+use lib.ListN.{length, take}
+use Rattle.laws.specs.Buffer.{Lent}
 use Rattle.laws.specs.Runs.{outside}
 use Rattle.laws.proofs.One.{one-result}
 use Rattle.laws.proofs.Stores.{list-written, lent-done, lent-unless}

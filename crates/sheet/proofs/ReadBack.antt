@@ -1,11 +1,11 @@
 -- What a reader finds on a sheet: header, index and rows, with every number whole.
-use mathlib.Core.Path.{_≡_, refl, sym, _∙_}
-use mathlib.Core.List.{List, [], _∷_, _++_}
+use mathlib.Core.Path.{_≡_, sym, _∙_}
+use mathlib.Core.List.{List, _++_}
 use mathlib.Core.Logic.{⊎-elim}
-use Prim.Native.Nat.{ℕ, _+_, _*_, _/_, _≤_, _<_}
+use Prim.Native.Nat.{ℕ, _+_, _*_, _≤_, _<_}
 use native.Mathlib.Omega.{arith}
-use lib.ListN.{length, getD}
-use Rattle.laws.specs.Joined.{joined, total}
+use lib.ListN.{getD}
+use Rattle.laws.specs.Joined.{joined}
 use Rattle.laws.proofs.Joins.{Holds, holds-in, holds-first, holds-second, holds-each, joined-alike, total-alike, total-most}
 use Rattle.days.specs.Range.{lastDay}
 use Rattle.layout.specs.Layout.{littleEndian, indexOffset, rowsOffset, headerBytes, entryBytes, rowBytes}
@@ -14,12 +14,10 @@ use Rattle.layout.proofs.Sizes.{header-long}
 use Rattle.molad.specs.Years.{InYears}
 use Rattle.newyear.specs.NewYear.{yearLength}
 use Rattle.newyear.proofs.Lengths.{length-in}
-use Rattle.rest.specs.Table.{restDay}
 use Rattle.rest.specs.Wings.{IsWing, tableOf}
 use Rattle.rest.proofs.Passed.{tables-pass}
 use Rattle.rest.proofs.RestOfYear.{rest-in-range}
 use Rattle.stretch.specs.Stretches.{stretchRows}
-use Rattle.stretch.specs.Promises.{StretchesOf}
 use Rattle.stretch.proofs.WholeList.{stretches-of, two-each}
 use Rattle.stretch.proofs.OfKind.{few, most-in-room}
 use Rattle.stretch.proofs.Answers.{either-wing}

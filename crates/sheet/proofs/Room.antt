@@ -4,7 +4,7 @@ use mathlib.Core.Path.{_≡_, refl, sym, _∙_}
 use mathlib.Core.Bool.{Bool, true, false, _&&_, cond, false≢true}
 use mathlib.Core.List.{List, [], _∷_, _++_}
 use mathlib.Core.Logic.{by-cases, inl, inr}
-use Prim.Native.Nat.{ℕ, zero, suc, _+_, _*_, _-_, _/_, _≤_, _<_}
+use Prim.Native.Nat.{ℕ, zero, suc, _+_, _*_, _-_, _≤_, _<_}
 use native.Mathlib.Decide.{decLe}
 use native.Mathlib.Omega.{arith}
 use borrow.Author.Tests.{leb-true, eqb-true}
@@ -19,7 +19,7 @@ use Rattle.laws.proofs.Joins.{total-alike, total-split, total-grows}
 use Rattle.laws.specs.Promise.{_else_, FirstUnmet}
 use Rattle.days.specs.Weekday.{weekday}
 use Rattle.molad.specs.Years.{InYears, lastYear}
-use Rattle.newyear.specs.NewYear.{newYear, yearLength}
+use Rattle.newyear.specs.NewYear.{yearLength}
 use Rattle.newyear.specs.Kinds.{kindCode, kinds, everyKind, kindOf}
 use Rattle.newyear.proofs.Quick.{quick, newYear-quick}
 use Rattle.newyear.proofs.Lengths.{year-passes}

@@ -1,10 +1,10 @@
 -- How many bytes the parts of a sheet have.
-use mathlib.Core.Path.{_≡_, refl, _∙_}
+use mathlib.Core.Path.{_≡_, _∙_}
 use mathlib.Core.List.{List, _++_}
-use Prim.Native.Nat.{ℕ, _+_, _*_, _≤_}
+use Prim.Native.Nat.{ℕ, _+_, _*_}
 use native.Mathlib.Omega.{arith}
 use lib.ListN.{length, length-append}
-use Rattle.laws.specs.Joined.{joined, total}
+use Rattle.laws.specs.Joined.{joined}
 use Rattle.laws.proofs.Joins.{joined-length, total-same, total-times}
 use Rattle.layout.specs.Layout.{rowsOffset, headerBytes}
 use Rattle.layout.proofs.Sizes.{header-long, entry-long, row-long}

@@ -5,7 +5,7 @@ use Prim.Native.Nat.{ℕ, _+_, _*_, _≤_, _<_}
 use native.Mathlib.Omega.{arith}
 use lib.ListN.{length}
 use lib.Seq.{sets, length-sets}
-use Rattle.laws.specs.Joined.{joined, total}
+use Rattle.laws.specs.Joined.{joined}
 use Rattle.laws.proofs.Joins.{joined-more, total-more, total-grows}
 use Rattle.laws.specs.Buffer.{overwrite}
 use Rattle.laws.proofs.Stores.{sets-more, sets-three, sets-apart, sets-over}

@@ -13,28 +13,30 @@ use Rattle.stretch.specs.Stretches.{stretchRows}
 abbrev pub mostYears : ℕ
 mostYears = 100
 
--- The rows of a list of stretches, whose entries are first day and length of each in turn.
+-- Row k, counted from 0, of a list of stretches, whose entries are first day and length of each in turn.
 unfoldable pub rowOf : ℕ → List ℕ → ℕ → List ℕ
 rowOf wing list k = rowBytes wing (getD list (2 * k) 0) (getD list (2 * k + 1) 0)
 
--- How many rows year h has, and which: those of the stretches that begin in it, rising.
+-- How many rows year h has, one for each stretch that begins in it; and these rows, which rise as its list does.
 unfoldable pub rowsIn : ℕ → ℕ → ℕ
 rowsIn wing h = length (stretchRows (tableOf wing) h) / 2
 
 unfoldable pub yearRows : ℕ → ℕ → List ℕ
 yearRows wing h = joined (rowOf wing (stretchRows (tableOf wing) h)) (rowsIn wing h)
 
--- The rows of the first i years of a sheet that begins with year h, and how many bytes it has with so many years.
+-- How many rows the n years from year h on have.
 unfoldable pub rowsBefore : ℕ → ℕ → ℕ → ℕ
-rowsBefore wing h i = total (λ k. rowsIn wing (h + k)) i
+rowsBefore wing h n = total (λ k. rowsIn wing (h + k)) n
 
+-- The bytes wanted for so many years.
 unfoldable pub sheetSize : ℕ → ℕ → ℕ → ℕ
 sheetSize wing h years = rowsOffset years + 6 * rowsBefore wing h years
 
+-- The index entry of year h + i.
 unfoldable pub entryOf : ℕ → ℕ → ℕ → ℕ → List ℕ
 entryOf wing h years i = entryBytes (rowsOffset years + 6 * rowsBefore wing h i) (rowsIn wing (h + i)) (yearLength (h + i))
 
--- The sheet of so many years, from year h on. Rows run by year and rise.
+-- The sheet of so many years, from year h on. Rows run by year.
 unfoldable pub sheet : ℕ → ℕ → ℕ → List ℕ
 sheet wing h years =
     headerBytes years h (rowsBefore wing h years)

@@ -1,6 +1,5 @@
 -- The runs that have ended by the year's end are the year's list.
 use borrow.Author.Needs.{needs}
-use mathlib.Core.Path.{_≡_}
 use native.Mathlib.Omega.{arith}
 use Rattle.newyear.specs.Kinds.{kindOf}
 use Rattle.newyear.proofs.Lengths.{kind-in}

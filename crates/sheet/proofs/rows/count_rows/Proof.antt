@@ -1,6 +1,6 @@
 -- The rows of the years so far, added up.
 use borrow.Author.Needs.{needs}
-use mathlib.Core.Path.{_≡_, refl, _∙_}
+use mathlib.Core.Path.{_≡_, refl}
 use Prim.Native.Nat.{_*_, _-_, _+_, _≤_}
 use native.Mathlib.Omega.{arith}
 use Rattle.laws.specs.Joined.{total}

@@ -1,5 +1,4 @@
 use borrow.Author.Needs.{needs}
-use mathlib.Core.Path.{_≡_}
 use native.Mathlib.Omega.{arith}
 use Rattle.sheet.specs.Sheet.{rowsIn}
 use Rattle.sheet.proofs.rows.rows_in.Statement.{statement}

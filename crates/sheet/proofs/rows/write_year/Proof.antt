@@ -1,7 +1,6 @@
 -- The year's stretches are worked out into entries of its own, and a row is written for each.
 use borrow.Author.Needs.{needs}
 use mathlib.Core.Path.{_≡_}
-use Prim.Native.Nat.{_/_}
 use native.Mathlib.Omega.{arith}
 use lib.ListN.{length as count, take}
 use lib.Seq.{take-append-seam}

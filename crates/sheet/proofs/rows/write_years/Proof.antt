@@ -8,7 +8,7 @@ use lib.Seq.{length-sets}
 use Rattle.laws.specs.Joined.{joined, total}
 use Rattle.layout.specs.Layout.{rowsOffset}
 use Rattle.newyear.proofs.Spanned.{spans-own}
-use Rattle.sheet.specs.Sheet.{rowsIn, yearRows, rowsBefore, entryOf}
+use Rattle.sheet.specs.Sheet.{rowsIn, rowsBefore, entryOf}
 use Rattle.sheet.proofs.Years.{rows-more, rows-grow, written, written-long, year-more}
 use Rattle.sheet.proofs.rows.write_years.Statement.{statement}
 use Rattle.sheet.proofs.rows.write_years.Tie as tie
