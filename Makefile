@@ -1,19 +1,20 @@
 # make help lists what can be asked for; README.md has the rest.
-.PHONY: help year notice test panel lib install uninstall clean
+.PHONY: help year notice sheet test panel lib install uninstall clean
 
 # The lines of README.md that begin with make.
 help:
 	@sed -n 's/^    \(make .*\)/\1/p' README.md
 
-# What is typed for YEAR, MONTH, WING, DATE, TIME and SUNSET is text. It goes to the programs by the environment, and neither
-# make nor a shell reads a command in it. Blanks around it are dropped: make itself drops those before it.
+# What is typed for YEAR, MONTH, WING, FIRST, YEARS, DATE, TIME and SUNSET is text. It goes to the programs by the
+# environment, and neither make nor a shell reads a command in it. Blanks around it are dropped: make itself drops those
+# before it.
 define text
 ifneq ($$(origin $(1)),undefined)
 override $(1) := $$(strip $$(value $(1)))
 export $(1)
 endif
 endef
-$(foreach name,YEAR MONTH WING DATE TIME SUNSET,$(eval $(call text,$(name))))
+$(foreach name,YEAR MONTH WING FIRST YEARS DATE TIME SUNSET,$(eval $(call text,$(name))))
 
 # Without a YEAR, the year that it is now.
 year:
@@ -22,6 +23,10 @@ year:
 # A year and a month's code; one that is missing is refused as an empty one is.
 notice:
 	@tools/notice "$${YEAR-}" "$${MONTH-}"
+
+# A wing, the first year, how many years, and the file to write; one that is missing is refused as an empty one is.
+sheet:
+	@tools/sheet "$${WING-}" "$${FIRST-}" "$${YEARS-}" "$${FILE-}"
 
 # Without a WING, wing 1; without a DATE, today. CC names another compiler, for x86-64 Linux.
 panel:
@@ -35,19 +40,19 @@ lib:
 	@tools/lib
 
 # The folders as GNU has them; PREFIX is another name for prefix. DESTDIR is put before each while installing. What is typed
-# for one is text too, whatever it holds.
+# for one, or for FILE, is text too, whatever it holds.
 PREFIX ?= /usr/local
 prefix = $(PREFIX)
 libdir = $(prefix)/lib
 includedir = $(prefix)/include
-define folder
+define path
 ifneq ($$(filter command environment,$$(origin $(1))),)
 override $(1) := $$(value $(1))
 endif
 endef
-$(foreach name,PREFIX prefix libdir includedir DESTDIR,$(eval $(call folder,$(name))))
+$(foreach name,FILE PREFIX prefix libdir includedir DESTDIR,$(eval $(call path,$(name))))
 VERSION := $(shell sed -n 's/^\#define BD_VERSION "\(.*\)"/\1/p' include/bournedrouth.h)
-export prefix libdir includedir DESTDIR VERSION
+export FILE prefix libdir includedir DESTDIR VERSION
 
 install: lib
 	@tools/install

@@ -2,7 +2,7 @@
 use mathlib.Core.Path.{_≡_, refl, sym, _∙_}
 use mathlib.Core.Bool.{Bool, true, false, _||_, cond, false≢true}
 use mathlib.Core.List.{List, [], _∷_}
-use mathlib.Core.Logic.{inl, inr, ⊎-elim, by-cases}
+use mathlib.Core.Logic.{_↔_, inl, inr, ⊎-elim, by-cases}
 use Prim.Native.Nat.{ℕ, _≤_}
 use native.Mathlib.Omega.{arith}
 use native.Mathlib.Decide.{decLe}
@@ -90,21 +90,33 @@ module _ {A : Type 0} {number : A → ℕ} {Values : A → Type 0} {Besides : �
       (a .met → Promised number asked Values Besides r) → Promised number (a ∷ asked) Values Besides (cond test x r)
   asks {r} {test} x t = by-test x r test (t .passes) (t .catches)
 
--- The one thing that is asked may be said in other words.
-pub restated :
-    {A M N : Type 0} {k : ℕ} {number : A → ℕ} {Values : A → Type 0} {Besides : ℕ → A → Type 0} {r : A} → (M → N) → (N → M) →
-    Promised number (M else k ∷ []) Values Besides r → Promised number (N else k ∷ []) Values Besides r
-restated f g p =
-    record {
-      done = (λ z. (f (p .done .0 z .0), tt), λ m. p .done .1 (g (m .0), tt));
-      values = λ m. p .values (g (m .0), tt);
-      refused =
-          λ n l. (
-            λ e. ⊎-elim (λ u. inl ((λ m. u .0 (g m)), u .1)) (λ u. absurd (u .1)) (p .refused n l .0 e),
-            ⊎-elim (λ u. p .refused n l .1 (inl ((λ m. u .0 (f m)), u .1))) (λ u. absurd (u .1)),
-          );
-      besides = λ n. ⊎-elim (λ u. p .besides n (inl ((λ m. u .0 (f m)), u .1))) (λ u. absurd (u .1));
-    }
+  -- Where the first thing asked is met, the others alone are asked.
+  later : {M : Type 0} {k : ℕ} {asked : List Asked} {r : A} → M → Promised number (M else k ∷ asked) Values Besides r → Promised number asked Values Besides r
+  later m p =
+      record {
+        done = (λ z. p .done .0 z .1, λ a. p .done .1 (m, a));
+        values = λ a. p .values (m, a);
+        refused = λ n l. (λ e. ⊎-elim (λ u. absurd (u .0 m)) (λ u. u .1) (p .refused n l .0 e), λ u. p .refused n l .1 (inr (m, u)));
+        besides = λ n u. p .besides n (inr (m, u));
+      }
+
+  -- The first thing asked may be said in other words and, where it is met, so may the others.
+  pub restated :
+      {M N : Type 0} {k : ℕ} {asked others : List Asked} {r : A} → M ↔ N →
+      (N → Promised number asked Values Besides r → Promised number others Values Besides r) →
+      Promised number (M else k ∷ asked) Values Besides r → Promised number (N else k ∷ others) Values Besides r
+  restated {N} {others} {r} same after p =
+      let rest : N → Promised number others Values Besides r = λ m. after m (later (same .1 m) p) in
+      record {
+        done = (λ z. let m = same .0 (p .done .0 z .0) in (m, rest m .done .0 z), λ a. rest (a .0) .done .1 (a .1));
+        values = λ a. rest (a .0) .values (a .1);
+        refused =
+            λ n l. (
+              λ e. ⊎-elim (λ u. inl ((λ m. u .0 (same .1 m)), u .1)) (λ u. let m = same .0 (u .0) in inr (m, rest m .refused n l .0 e)) (p .refused n l .0 e),
+              ⊎-elim (λ u. p .refused n l .1 (inl ((λ m. u .0 (same .0 m)), u .1))) (λ u. rest (u .0) .refused n l .1 (u .1)),
+            );
+        besides = λ n. ⊎-elim (λ u. p .besides n (inl ((λ m. u .0 (same .0 m)), u .1))) (λ u. rest (u .0) .besides n (u .1));
+      }
 
 -- Where the numbers rise the first that is not met is the smallest.
 not-below : (asked : List Asked) (m n : ℕ) → Rising m asked → Unmet asked n → m ≤ n

@@ -1,7 +1,8 @@
 -- What `number_on_line` promises, and that its contract leaves one answer.
 use mathlib.Core.Path.{_≡_, refl, sym, ap, _∙_}
-use mathlib.Core.Bool.{not, false≢true}
+use mathlib.Core.Bool.{Bool, true, false, cond, not, false≢true}
 use mathlib.Core.List.{List, [], _∷_, _++_}
+use mathlib.Core.Logic.{_↔_}
 use Prim.Native.Nat.{ℕ, _≤_}
 use native.Mathlib.Omega.{arith}
 use borrow.Author.Tests.{not-true, not-false}
@@ -39,6 +40,31 @@ number-on-line-promised input =
     let line = firstLine input in
     asks (record { refusal = 1; number = 0 }) (number-caught line) (omega arith) refl refl (λ _.
     answered refl refl)
+
+-- A line that is refused has the number 0.
+picked :
+    (b : Bool) (n : ℕ) → let r : LineAnswer = cond b (record { refusal = 1; number = 0 }) (record { refusal = 0; number = n }) in
+    r .number ≡ cond b 0 n
+picked true n = refl
+picked false n = refl
+
+pub number-of : (line : List ℕ) → lineOf line .number ≡ cond (noNumber line) 0 (decimal line)
+unfolding lineOf
+number-of line = picked (noNumber line) (decimal line)
+
+-- So where 0 does not meet what is asked of a number, the number on a line meets it exactly if the line is one to five
+-- figures and theirs does.
+pub by-figures :
+    (input : List ℕ) (M : ℕ → Type 0) → (¬ M 0) → let line = firstLine input in
+    M (lineAnswer input .number) ↔ (IsNumber line × M (decimal line))
+unfolding lineAnswer
+by-figures input M nought = let line = firstLine input in rw (number-of line) (go (noNumber line) (number-caught line))
+  where
+    go :
+        (b : Bool) → Catches b (IsNumber (firstLine input)) → let line = firstLine input in
+        M (cond b 0 (decimal line)) ↔ (IsNumber line × M (decimal line))
+    go true c = (λ m. absurd (nought m), λ m. absurd (c .catches refl (m .0)))
+    go false c = (λ m. (c .passes refl, m), λ m. m .1)
 
 -- An example: "5762", with and without a line feed.
 pub line-5762 :

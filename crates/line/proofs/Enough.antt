@@ -4,7 +4,7 @@ use mathlib.Core.Path.{_≡_, refl, sym, ap}
 use mathlib.Core.Bool.{Bool, true, false, cond}
 use mathlib.Core.List.{List, [], _∷_}
 use mathlib.Core.Logic.{by-cases}
-use Prim.Native.Nat.{ℕ, zero, suc, _-_, _≤_, _<_}
+use Prim.Native.Nat.{ℕ, zero, suc, _+_, _-_, _≤_, _<_}
 use native.Mathlib.Decide.{decLe}
 use native.Mathlib.Omega.{arith}
 use borrow.Author.Tests.{lt-ltb, le-ltb}
@@ -57,3 +57,14 @@ unfolding firstLine afterLine
 after-part zero input = let none : 0 - suc (length (firstLine input)) ≡ 0 = omega arith in rw none
 after-part (suc n) [] = sym (take-nil (suc n - 1))
 after-part (suc n) (byte ∷ l) = later-part (eqb byte 10) n byte l (firstLine l) (afterLine l) (after-part n l)
+
+-- Six bytes more, for a line before the others: an answer by the first line's number, which does not hang on the later
+-- lines where that number is 0, and to which n bytes of those tell enough, is told by n + 6 bytes of the input.
+pub line-before :
+    {A : Type 0} (n : ℕ) (input : List ℕ) (answer : ℕ → List ℕ → A) → ((k l : List ℕ) → answer 0 k ≡ answer 0 l) →
+    ((m x : ℕ) → n ≤ m → answer x (take m (afterLine input)) ≡ answer x (afterLine input)) → let part = take (n + 6) input in
+    answer (lineAnswer part .number) (afterLine part) ≡ answer (lineAnswer input .number) (afterLine input)
+line-before n input answer none later =
+    by-cases (decLe (length (firstLine input)) 5)
+    (λ s. rw (enough (n + 6) input (omega arith), after-part (n + 6) input) (later (n + 6 - suc (length (firstLine input))) _ (omega arith)))
+    (λ s. rw (enough (n + 6) input (omega arith), long-line input (omega arith)) (none _ _))

@@ -11,7 +11,8 @@ use native.Mathlib.Omega.{arith}
 use native.Mathlib.Decide.{ℕ-discrete}
 use borrow.Author.Tests.{not-true, le-ltb, ne-eqb}
 use lib.Dec.{eqb, lit<}
-use lib.ListN.{length, take, drop, length-append}
+use lib.ListN.{length, take, drop, length-append, length-drop}
+use lib.Seq.{take-all}
 use Rattle.bytes.specs.Bytes.{indexOf, indexAfter}
 use Rattle.laws.specs.Runs.{eachOf, elem}
 use Rattle.laws.proofs.Tests.{within, and-left, and-right, or-left, or-right}
@@ -53,6 +54,10 @@ pub past-line : (input : List ℕ) → drop (suc (length (firstLine input))) inp
 unfolding firstLine afterLine
 past-line [] = refl
 past-line (byte ∷ rest) = behind (eqb byte 10) byte rest (firstLine rest) (afterLine rest) (past-line rest)
+
+-- So a part of the input that begins there and runs to the end is the later lines.
+pub later-lines : (n : ℕ) (input : List ℕ) → drop n input ≡ afterLine input → take (length input - n) (drop n input) ≡ afterLine input
+later-lines n input e = take-all (length input - n) (drop n input) (rw (length-drop n input) (omega arith)) ∙ e
 
 -- Each byte of a line of figures is a figure, and a line whose bytes all are is one of figures.
 pub figure-at : (l : List ℕ) → eachOf l figure ≡ true → AllFigures l

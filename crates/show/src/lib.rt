@@ -1,9 +1,15 @@
-// What the programs print with: words, numbers, civil dates, refusals and line ends on standard output; and one number for
-// many.
+// What the programs print with: words, numbers, bytes, civil dates, refusals and line ends on standard output; what they
+// say on standard error; and one number for many.
 ghost use mathlib.Core.Path.{_≡_};
 ghost use Prim.Native.Nat.{_+_, _*_, _%_};
 ghost use lib.IntN.{natAbs};
+use libc::STDERR_FILENO;
 use libc::STDOUT_FILENO;
+
+// Bytes as they are, of a file that is no text. Answers true if all of them are written.
+pub fn file(bytes: &[u8]) -> bool {
+    io::write_all(STDOUT_FILENO, bytes)
+}
 
 pub fn text(words: &[u8]) {
     io::write_all(STDOUT_FILENO, words);
@@ -26,6 +32,12 @@ pub fn two_figures(n: u64) {
         io::write_all(STDOUT_FILENO, b"0");
     }
     plain(n);
+}
+
+// A byte as two figures to the base 16, after one blank.
+pub fn byte(byte: u8) {
+    text(b" ");
+    io::print_hex(STDOUT_FILENO, byte as u64, 2);
 }
 
 // How far a number is from 0. The least i64 has no positive twin: one is added first, and again at the end.
@@ -62,11 +74,26 @@ pub fn end() {
     io::write_all(STDOUT_FILENO, b"\n");
 }
 
+fn refused_on(stream: i32, refusal: u64) {
+    io::write_all(stream, b"refused ");
+    io::print_decimal(stream, refusal);
+    io::write_all(stream, b"\n");
+}
+
 // What is printed in place of an answer.
 pub fn refused(refusal: u64) {
-    text(b"refused");
-    number(refusal);
-    end();
+    refused_on(STDOUT_FILENO, refusal);
+}
+
+// The same on standard error, by a program whose answers are no text.
+pub fn say_refused(refusal: u64) {
+    refused_on(STDERR_FILENO, refusal);
+}
+
+// A line of words on standard error.
+pub fn say(words: &[u8]) {
+    io::write_all(STDERR_FILENO, words);
+    io::write_all(STDERR_FILENO, b"\n");
 }
 
 const PRIME: u64 = 1_000_000_007;

@@ -73,7 +73,7 @@ shown-date-promised j =
     (λ e. rw (eq-eqb j firstShown e) (rw e first-promised))
     (λ e.
     let range : MayBeShown j → InRange j = λ s. (omega arith, s .1) in
-    rw (ne-eqb j firstShown e) (restated (λ i. (omega arith, i .1)) range (day-to-gregorian-promised j)))
+    rw (ne-eqb j firstShown e) (restated (λ i. (omega arith, i .1), range) (λ _ p. p) (day-to-gregorian-promised j)))
 
 pub shown-date-one : (j : ℕ) (r s : CivilDate) → r ≡ shownDate j → s ≡ shownDate j → r ≡ s
 shown-date-one j = one-result (shownDate j)

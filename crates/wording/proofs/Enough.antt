@@ -1,17 +1,13 @@
 -- Twelve bytes of the input tell its answer: five figures and what follows them, twice.
 use mathlib.Core.Path.{_≡_, refl, sym, _∙_}
 use mathlib.Core.List.{List}
-use mathlib.Core.Logic.{by-cases}
-use Prim.Native.Nat.{ℕ, suc, _-_}
-use native.Mathlib.Decide.{decLe}
-use native.Mathlib.Omega.{arith}
-use lib.ListN.{length, take}
-use Rattle.line.specs.Line.{firstLine, afterLine}
+use Prim.Native.Nat.{ℕ}
+use lib.ListN.{take}
+use Rattle.line.specs.Line.{afterLine}
 use Rattle.line.specs.Answers.{lineAnswer}
-use Rattle.line.proofs.Enough.{long-line, after-part}
+use Rattle.line.proofs.Enough.{line-before}
 use Rattle.line.proofs.Enough.{enough as line-enough}
 use Rattle.notice.specs.Answers.{noNotice, noticeAnswer}
-use Rattle.notice.specs.declared.NoticeAnswer.{NoticeAnswer}
 use Rattle.wording.specs.Answers.{noticeOnLines}
 use Rattle.wording.proofs.Numbers.{by-numbers}
 
@@ -20,17 +16,13 @@ no-year : (code : ℕ) → noticeAnswer 0 code ≡ noNotice 1
 unfolding noticeAnswer
 no-year code = refl
 
--- The notice by the lines' numbers.
-asked : List ℕ → NoticeAnswer
-asked input = noticeAnswer (lineAnswer input .number) (lineAnswer (afterLine input) .number)
-
-part : (input : List ℕ) → asked (take 12 input) ≡ asked input
-unfolding asked
-part input =
-    by-cases (decLe (length (firstLine input)) 5)
-    (λ s. rw (line-enough 12 input (omega arith), after-part 12 input, line-enough (12 - suc (length (firstLine input))) (afterLine input) (omega arith)))
-    (λ s. rw (line-enough 12 input (omega arith), long-line input (omega arith)) (no-year _ ∙ sym (no-year _)))
+by-two-lines :
+    (input : List ℕ) → let part = take 12 input in
+    noticeAnswer (lineAnswer part .number) (lineAnswer (afterLine part) .number)
+    ≡ noticeAnswer (lineAnswer input .number) (lineAnswer (afterLine input) .number)
+by-two-lines input =
+    line-before 6 input (λ h later. noticeAnswer h (lineAnswer later .number)) (λ k l. no-year _ ∙ sym (no-year _))
+    (λ m h s. rw (line-enough m (afterLine input) s))
 
 pub enough : (input : List ℕ) → noticeOnLines (take 12 input) ≡ noticeOnLines input
-unfolding asked
-enough input = sym (by-numbers (take 12 input)) ∙ (part input ∙ by-numbers input)
+enough input = sym (by-numbers (take 12 input)) ∙ (by-two-lines input ∙ by-numbers input)

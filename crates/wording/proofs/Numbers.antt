@@ -5,23 +5,13 @@ use mathlib.Core.Bool.{Bool, true, false, cond, _||_}
 use mathlib.Core.List.{List}
 use Prim.Native.Nat.{ℕ}
 use Rattle.line.specs.Line.{firstLine, afterLine, decimal}
-use Rattle.line.specs.Answers.{noNumber, lineOf, lineAnswer}
-use Rattle.line.specs.declared.LineAnswer.{LineAnswer}
+use Rattle.line.specs.Answers.{noNumber, lineAnswer}
+use Rattle.line.proofs.Answers.{number-of}
 use Rattle.molad.specs.Years.{outOfYears, leap}
 use Rattle.molad.specs.Molad.{noMonth}
 use Rattle.notice.specs.Answers.{noNotice, noticeAnswer}
 use Rattle.notice.specs.declared.NoticeAnswer.{NoticeAnswer}
 use Rattle.wording.specs.Answers.{noticeOn, noticeOnLines}
-
-picked :
-    (b : Bool) (n : ℕ) → let r : LineAnswer = cond b (record { refusal = 1; number = 0 }) (record { refusal = 0; number = n }) in
-    r .number ≡ cond b 0 n
-picked true n = refl
-picked false n = refl
-
-number-of : (line : List ℕ) → lineOf line .number ≡ cond (noNumber line) 0 (decimal line)
-unfolding lineOf
-number-of line = picked (noNumber line) (decimal line)
 
 -- Asked twice, a test tells the same.
 twice : (p q : Bool) (a b x : NoticeAnswer) → cond p a (cond q b x) ≡ cond p a (cond q b (cond p a (cond q b x)))
