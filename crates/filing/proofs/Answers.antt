@@ -1,5 +1,5 @@
 -- What `sheet_on_lines` promises, and that its contract leaves one answer and one state of the lent bytes.
-use mathlib.Core.Path.{_≡_, refl}
+use mathlib.Core.Path.{_≡_}
 use mathlib.Core.Bool.{cond}
 use mathlib.Core.List.{List, [], _∷_}
 use mathlib.Core.Logic.{_↔_, ⊎-elim}
@@ -22,61 +22,55 @@ use Rattle.sheet.proofs.Answers.{sheet-promised, sheet-lent}
 use Rattle.sheet.proofs.Room.{sheet-room}
 use Rattle.filing.specs.Answers.{wingOn, firstYearOn, yearsOn, sheetOnLines, sheetOnLinesBuffer}
 
+-- What is asked of the second line goes by the number on the third.
+first-year :
+    (input : List ℕ) → let second = firstLine (afterLine input) in let third = firstLine (afterLine (afterLine input)) in
+    IsNumber third →
+    (InYears (firstYearOn input) × InYears (firstYearOn input + yearsOn input - 1))
+    ↔ (IsNumber second × (InYears (decimal second) × InYears (decimal second + decimal third - 1)))
+first-year input y =
+    let last = afterLine (afterLine input) in
+    rw (number-on-line-promised last .values (y, tt))
+    (by-figures (afterLine input) (λ h. InYears h × InYears (h + decimal (firstLine last) - 1)) (λ m. omega (arith, m .0 .0)))
+
+-- Done exactly if the first line holds a wing, the third 1 to 100 years, the second a year from which on they lie inside,
+-- and the lent bytes are enough.
+pub sheet-on-lines-promised :
+    (input buffer : List ℕ) → let first = firstLine input in
+    let second = firstLine (afterLine input) in
+    let third = firstLine (afterLine (afterLine input)) in
+    let size = sheetSize (wingOn input) (firstYearOn input) (yearsOn input) in
+    Promised (λ (r : ListAnswer). r .refusal)
+    ((IsNumber first × IsWing (decimal first)) else 15
+    ∷ (IsNumber third × ((1 ≤ decimal third) × (decimal third ≤ mostYears))) else 11
+    ∷ (IsNumber second × (InYears (decimal second) × InYears (decimal second + decimal third - 1))) else 1
+    ∷ (size ≤ length buffer) else 10
+    ∷ [])
+    (λ r. r .count ≡ size)
+    (λ n r. r .count ≡ cond (eqb n 10) size 0)
+    (sheetOnLines input buffer)
+unfolding sheetOnLines
+sheet-on-lines-promised input buffer =
+    restated (by-figures input IsWing (⊎-elim (λ e. omega arith) (λ e. omega arith))) (λ _.
+    restated (by-figures (afterLine (afterLine input)) (λ n. (1 ≤ n) × (n ≤ mostYears)) (λ m. omega (arith, m .0))) (λ y.
+    restated (first-year input (y .0)) (λ _ p. p)))
+    (sheet-promised (wingOn input) (firstYearOn input) (yearsOn input) buffer)
+
 module _ (input buffer : List ℕ) where
-  -- The three lines, and how many bytes the sheet has that their numbers ask for.
-  abbrev pub first : List ℕ
-  first = firstLine input
-
-  abbrev pub second : List ℕ
-  second = firstLine (afterLine input)
-
-  abbrev pub third : List ℕ
-  third = firstLine (afterLine (afterLine input))
-
-  abbrev pub size : ℕ
-  size = sheetSize (wingOn input) (firstYearOn input) (yearsOn input)
-
-  -- What is asked of the second line goes by the number on the third.
-  first-year :
-      IsNumber third →
-      (InYears (firstYearOn input) × InYears (firstYearOn input + yearsOn input - 1))
-      ↔ (IsNumber second × (InYears (decimal second) × InYears (decimal second + decimal third - 1)))
-  first-year y =
-      rw (number-on-line-promised (afterLine (afterLine input)) .values (y, tt))
-      (by-figures (afterLine input) (λ h. InYears h × InYears (h + decimal third - 1)) (λ m. omega (arith, m .0 .0)))
-
-  -- Done exactly if the first line holds a wing, the third 1 to 100 years, the second a year from which on they lie inside,
-  -- and the lent bytes are enough.
-  pub sheet-on-lines-promised :
-      Promised (λ (r : ListAnswer). r .refusal)
-      ((IsNumber first × IsWing (decimal first)) else 15
-      ∷ (IsNumber third × ((1 ≤ decimal third) × (decimal third ≤ mostYears))) else 11
-      ∷ (IsNumber second × (InYears (decimal second) × InYears (decimal second + decimal third - 1))) else 1
-      ∷ (size ≤ length buffer) else 10
-      ∷ [])
-      (λ r. r .count ≡ size)
-      (λ n r. r .count ≡ cond (eqb n 10) size 0)
-      (sheetOnLines input buffer)
-  unfolding sheetOnLines
-  sheet-on-lines-promised =
-      restated (by-figures input IsWing (⊎-elim (λ e. omega arith) (λ e. omega arith))) (λ _.
-      restated (by-figures (afterLine (afterLine input)) (λ n. (1 ≤ n) × (n ≤ mostYears)) (λ m. omega (arith, m .0))) (λ y.
-      restated (first-year (y .0)) (λ _ p. p)))
-      (sheet-promised (wingOn input) (firstYearOn input) (yearsOn input) buffer)
-
   -- Done, the lent bytes begin with the sheet, and those beyond it are as they were; refused, all are.
-  pub sheet-on-lines-lent : Lent (sheetOnLines input buffer .refusal) (sheet (wingOn input) (firstYearOn input) (yearsOn input)) buffer (sheetOnLinesBuffer input buffer)
+  pub sheet-on-lines-lent :
+      Lent (sheetOnLines input buffer .refusal) (sheet (wingOn input) (firstYearOn input) (yearsOn input)) buffer (sheetOnLinesBuffer input buffer)
   unfolding sheetOnLines sheetOnLinesBuffer
   sheet-on-lines-lent = sheet-lent (wingOn input) (firstYearOn input) (yearsOn input) buffer
 
-  -- What is told as written has room.
+  -- The bytes that are told as written stand in the lent ones.
   pub written-in-room : sheetOnLines input buffer .refusal ≡ 0 → sheetOnLines input buffer .count ≤ length buffer
   written-in-room z =
-      let p = sheet-on-lines-promised in
+      let p = sheet-on-lines-promised input buffer in
       let met = p .done .0 z in
       rw (p .values met) (met .1 .1 .1 .0)
 
-  -- With the bytes that the program lends it is never refused with 10.
+  -- With room for any sheet, as the program has it, nothing is refused with 10.
   pub room-enough : sheetRoom ≤ length buffer → sheetOnLines input buffer .refusal ≡ 10 → ⊥
   unfolding sheetOnLines
   room-enough l e =
@@ -85,7 +79,7 @@ module _ (input buffer : List ℕ) where
       let n = yearsOn input in
       ⊎-elim (λ u. omega (arith, u .1)) (λ w.
       ⊎-elim (λ u. omega (arith, u .1)) (λ y.
-      ⊎-elim (λ u. omega (arith, u .1)) (λ i. absurd (omega (arith, sheet-room wing (w .0) h n buffer (y .0) (i .0) l))) (y .1)) (w .1))
+      ⊎-elim (λ u. omega (arith, u .1)) (λ i. omega (arith, sheet-room wing (w .0) h n buffer (y .0) (i .0) l)) (y .1)) (w .1))
       (sheet-promised wing h n buffer .refused 10 (omega arith) .0 e)
 
   -- One answer, and one state of the bytes.

@@ -5,9 +5,6 @@
 ghost use mathlib.Core.Path.{_≡_};
 ghost use Rattle.filing.specs.Answers.{sheetOnLines, sheetOnLinesBuffer};
 
-// Bytes enough for any sheet.
-const ROOM: usize = 34650;
-
 // Refusal 15 for a first line that holds no wing; 11 for a third that is not 1 to 100 years; 1 for a second that holds no
 // year, or one from which the last of the years lies outside; 10 for a buffer of too few bytes. A line that is not one to
 // five figures has the number 0, which is no wing, no year and no count of years.
@@ -25,7 +22,7 @@ pub fn sheet_on_lines(input: &[u8], out: &mut [u8]) -> rest::ListAnswer
 
 // The sheet that the input's three lines ask for, or its refusal.
 pub fn write(input: &[u8]) {
-    let mut space = [0u8; ROOM];
+    let mut space = [0u8; sheet::SHEET_ROOM];
     let told = sheet_on_lines(input, &mut space);
     if told.refusal != 0 {
         show::say_refused(told.refusal);

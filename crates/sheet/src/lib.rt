@@ -12,6 +12,9 @@ ghost use Rattle.sheet.specs.Answers.{wingSheet, wingSheetBuffer};
 // The most years that a sheet holds.
 const MOST_YEARS: u64 = 100;
 
+// The most bytes that any sheet takes, in either wing (theorem `most-bytes`).
+pub const SHEET_ROOM: usize = 34_650;
+
 // The sheet of a wing for so many years, from the first year on. Refusal 15 for a wing that is neither 1 nor 2; 11 for
 // years that are not 1 to 100; 1 if the first or the last of them lies outside 1..9999; 10 for a buffer of too few bytes,
 // telling how many are wanted; else the answer tells how many were written.
