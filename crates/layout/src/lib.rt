@@ -1,8 +1,8 @@
 // In which bytes does a sheet keep its numbers.
 //
 // Numbers are little-endian, in 1, 2 or 4 bytes: the lowest byte comes first, each next counts 256 times as much. A sheet
-// is made of a header, index entries and rows, each of a few numbers one behind the other. What is stored here goes into
-// lent bytes, at a place that has room for it; what stands elsewhere stays.
+// is made of a header of 16 bytes, index entries of 8 and rows of 6, each a few numbers one behind the other. What is
+// stored here goes into lent bytes, at a place that has room for it; what stands elsewhere stays.
 ghost use mathlib.Core.Path.{_≡_};
 ghost use Prim.Native.Nat.{_+_, _≤_};
 ghost use lib.ListN.{length as ListN·length};
@@ -44,7 +44,8 @@ pub fn put_header(out: &mut [u8], years: u64, first_year: u64, rows: u64)
     put_four(out, 12, 16 + 8 * years);
 }
 
-// A step: an entry of the index. It tells where the year's first row stands, how many rows it has, and the year's length in days.
+// A step: an entry of the index. It tells where the year's first row stands, how many rows it has, and the year's length
+// in days.
 pub fn put_entry(out: &mut [u8], at: usize, offset: u64, rows: u64, days: u64)
     requires { ⌜ at + 8 ≤ ListN·length (now out) ⌝ }
     ensures { λ _. ⌜ now (out .exit) ≡ sets (now (out .entry)) at (entryBytes offset rows days) ⌝ }

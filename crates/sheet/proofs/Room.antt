@@ -1,16 +1,15 @@
 -- The most bytes that any sheet takes. How many rows a year has hangs on its kind alone, so that the checker goes through
--- the years once and adds up the rows of a hundred years at a time: one year comes in and one falls out.
+-- the years once and adds up the rows of a hundred years at a time.
 use mathlib.Core.Path.{_≡_, refl, sym, _∙_}
-use mathlib.Core.Bool.{Bool, true, false, _&&_, cond, false≢true}
-use mathlib.Core.List.{List, [], _∷_, _++_}
+use mathlib.Core.Bool.{Bool, true, false, _&&_, cond}
+use mathlib.Core.List.{List, [], _∷_}
 use mathlib.Core.Logic.{by-cases, inl, inr}
 use Prim.Native.Nat.{ℕ, zero, suc, _+_, _*_, _-_, _≤_, _<_}
 use native.Mathlib.Decide.{decLe}
 use native.Mathlib.Omega.{arith}
-use borrow.Author.Tests.{leb-true, eqb-true}
-use lib.Dec.{leb, eqb}
-use lib.ListN.{length, drop, take, getD, length-drop}
-use lib.Seq.{take-suc, drop-cons, getD-drop}
+use borrow.Author.Tests.{eqb-true}
+use lib.Dec.{eqb}
+use lib.ListN.{length, drop, take, getD}
 use Rattle.laws.specs.Begun.{begun}
 use Rattle.laws.specs.Joined.{total}
 use Rattle.laws.specs.Runs.{eachOf, placeIn}
@@ -33,6 +32,7 @@ use Rattle.stretch.proofs.OfKind.{entries, entriesOf, long-by-kind}
 use Rattle.sheet.specs.Sheet.{mostYears, rowsIn, rowsBefore, sheetSize}
 use Rattle.sheet.specs.Answers.{wingSheet}
 use Rattle.sheet.specs.Promises.{askedOfSheet, mostBytes, sheetRoom}
+use Rattle.sheet.proofs.Windows.{sumOf, sum-taken, slide, slide-tells}
 use Rattle.sheet.proofs.Years.{rows-grow}
 use Rattle.sheet.proofs.Answers.{sheet-promised}
 
@@ -78,47 +78,6 @@ unfolding codes kindOf yearLength
 code-at zero h k l p = absurd (omega arith)
 code-at (suc n) h zero l p = let e : h + 0 ≡ h = omega arith in rw (e, newYear-quick h l, newYear-quick (h + 1) (omega arith))
 code-at (suc n) h (suc k) l p = let e : h + suc k ≡ h + 1 + k = omega arith in rw e (code-at n (h + 1) k (omega arith) (omega arith))
-
--- What a list's entries count, added up.
-unfoldable sumOf : (ℕ → ℕ) → List ℕ → ℕ
-sumOf f [] = 0
-sumOf f (x ∷ l) = f x + sumOf f l
-
-module _ (f : ℕ → ℕ) where
-  sum-more : (l : List ℕ) (x : ℕ) → sumOf f (l ++ (x ∷ [])) ≡ sumOf f l + f x
-  unfolding sumOf
-  sum-more [] x = omega arith
-  sum-more (y ∷ l) x = rw (sum-more l x) (omega arith)
-
-  sum-taken : (l : List ℕ) (k n : ℕ) → k + n ≤ length l → sumOf f (take n (drop k l)) ≡ total (λ i. f (getD l (k + i) 0)) n
-  unfolding sumOf total
-  sum-taken l k zero p = refl
-  sum-taken l k (suc n) p =
-      rw (take-suc (drop k l) n 0 (rw (length-drop k l) (omega arith)), sum-more (take n (drop k l)) (getD (drop k l) n 0), getD-drop k l n 0, sum-taken l k n (omega arith))
-
-  -- No hundred entries next to each other count more than this: s is the count of the first hundred of those that are left.
-  unfoldable slide : ℕ → ℕ → List ℕ → List ℕ → Bool
-  slide most s [] left = leb s most
-  slide most s (x ∷ coming) [] = false
-  slide most s (x ∷ coming) (y ∷ left) = leb s most && slide most (s + f x - f y) coming left
-
-  slide-first : (most s : ℕ) (coming left : List ℕ) → slide most s coming left ≡ true → s ≤ most
-  unfolding slide
-  slide-first most s [] left e = leb-true _ _ e
-  slide-first most s (x ∷ coming) [] e = absurd (false≢true e)
-  slide-first most s (x ∷ coming) (y ∷ left) e = leb-true _ _ (and-left _ _ e)
-
-  slide-tells :
-      (most : ℕ) (left : List ℕ) (s : ℕ) → s ≡ sumOf f (take 100 left) → slide most s (drop 100 left) left ≡ true →
-      (k : ℕ) → k + 100 ≤ length left → sumOf f (take 100 (drop k left)) ≤ most
-  unfolding slide sumOf
-  slide-tells most left s q e zero p = omega (arith, q, slide-first most s (drop 100 left) left e)
-  slide-tells most [] s q e (suc k) p = absurd (omega arith)
-  slide-tells most (y ∷ left) s q e (suc k) p =
-      let x = getD left 99 0 in
-      let next = rw (drop-cons left 99 0 (omega arith)) at e in
-      let sum : s + f x - f y ≡ sumOf f (take 100 left) = rw (take-suc left 99 0 (omega arith), sum-more (take 99 left) x) (omega (arith, q)) in
-      slide-tells most left (s + f x - f y) sum (and-right (leb s most) _ next) k (omega arith)
 
 -- Every hundred years of 1 to 9999, in both wings.
 abbrev within : (ℕ → ℕ) → ℕ → List ℕ → Bool
