@@ -84,12 +84,35 @@ place-of (y ∷ l) x h =
     let e : suc (placeIn l x) - 1 ≡ suc (placeIn l x - 1) = omega (arith, p .0) in
     rw (ne-eqb x y q) (omega arith, omega (arith, p .1), rw e (p .2)))
 
+-- A test that passes at each of them passes.
+pub passed : (a n : ℕ) (p : ℕ → Bool) → ((k : ℕ) → a ≤ k → k < a + n → p k ≡ true) → every a n p ≡ true
+unfolding every
+passed a zero p f = refl
+passed a (suc n) p f = rw (f a (omega arith) (omega arith), passed (suc a) n p (λ k l u. f k (omega arith) (omega arith)))
+
 -- Two tests that agree on a run of numbers, or on all.
 pub every-alike : (a n : ℕ) (p q : ℕ → Bool) → ((k : ℕ) → a ≤ k → k < a + n → p k ≡ q k) → every a n p ≡ every a n q
 unfolding every
 every-alike a zero p q f = refl
 every-alike a (suc n) p q f =
     rw (f a (omega arith) (omega arith), every-alike (suc a) n p q (λ k l u. f k (omega arith) (omega arith)))
+
+-- One number more.
+and-true : (a : Bool) → a && true ≡ a
+and-true true = refl
+and-true false = refl
+
+and-third : (a b c : Bool) → a && (b && c) ≡ (a && b) && c
+and-third true b c = refl
+and-third false b c = refl
+
+pub every-more : (a n : ℕ) (p : ℕ → Bool) → every a (n + 1) p ≡ every a n p && p (a + n)
+unfolding every
+every-more a zero p = let e : a + 0 ≡ a = omega arith in rw (e, and-true (p a))
+every-more a (suc n) p =
+    let m : suc n + 1 ≡ suc (n + 1) = omega arith in
+    let e : a + suc n ≡ suc a + n = omega arith in
+    rw (m, e, every-more (suc a) n p) (and-third (p a) (every (suc a) n p) (p (suc a + n)))
 
 -- A test that compares two functions.
 pub equal : (a n : ℕ) (f g : ℕ → ℕ) → every a n (λ k. eqb (f k) (g k)) ≡ true → (k : ℕ) → a ≤ k → k < a + n → f k ≡ g k

@@ -3,7 +3,9 @@ use mathlib.Core.Path.{_≡_, refl, ap}
 use mathlib.Core.List.{List, [], _∷_, _++_}
 use Prim.Native.Nat.{ℕ, zero, suc, _+_, _*_, _/_, _<_}
 use native.Mathlib.Omega.{arith}
-use lib.ListN.{length, length-append}
+use native.Mathlib.Numerals.{add-one}
+use lib.ListN.{length, getD, length-append}
+use lib.Seq.{drop-cons}
 use Rattle.laws.proofs.Joins.{Holds, held-part, holds-in, holds-first, holds-second}
 use Rattle.layout.specs.Layout.{littleEndian}
 use Rattle.layout.specs.Reading.{worth, numberAt}
@@ -51,3 +53,20 @@ three-back bytes at a b c x y z h p q r =
       read-back bytes at a x (holds-left bytes first second at two) p,
       (read-back bytes (at + a) b y (holds-right bytes first second at (at + a) two (rw (little-long a x))) q, read-back bytes (at + (a + b)) c z third r),
     )
+
+-- The first byte counts once, those behind it 256 times as much.
+pub number-more : (bytes : List ℕ) (at n : ℕ) → at < length bytes → numberAt bytes at (suc n) ≡ getD bytes at 0 + 256 * numberAt bytes (at + 1) n
+unfolding numberAt worth
+number-more bytes at n p = rw (drop-cons bytes at 0 p, add-one at)
+
+pub number-one : (bytes : List ℕ) (at : ℕ) → at < length bytes → numberAt bytes at 1 ≡ getD bytes at 0
+unfolding numberAt worth
+number-one bytes at p = rw (drop-cons bytes at 0 p) (omega arith)
+
+-- Two bytes, and those behind them.
+pub number-two : (bytes : List ℕ) (at n : ℕ) → at + 1 < length bytes → numberAt bytes at (suc (suc n)) ≡ numberAt bytes at 2 + 65536 * numberAt bytes (at + 2) n
+number-two bytes at n p =
+    let e : at + 1 + 1 ≡ at + 2 = omega arith in
+    let first = number-more bytes at (suc n) (omega arith) in
+    let second = rw e at (number-more bytes (at + 1) n p) in
+    omega (arith, first, second, number-more bytes at 1 (omega arith), number-one bytes (at + 1) p)

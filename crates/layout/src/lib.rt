@@ -2,12 +2,14 @@
 //
 // Numbers are little-endian, in 1, 2 or 4 bytes: the lowest byte comes first, each next counts 256 times as much. A sheet
 // is made of a header of 16 bytes, index entries of 8 and rows of 6, each a few numbers one behind the other. What is
-// stored here goes into lent bytes, at a place that has room for it; what stands elsewhere stays.
+// stored here goes into lent bytes, at a place that has room for it; what stands elsewhere stays. What is read here is read
+// from a place that has so many bytes.
 ghost use mathlib.Core.Path.{_≡_};
-ghost use Prim.Native.Nat.{_+_, _≤_};
+ghost use Prim.Native.Nat.{_+_, _≤_, _<_};
 ghost use lib.ListN.{length as ListN·length};
 ghost use lib.Seq.{sets};
 ghost use Rattle.layout.specs.Layout.{littleEndian, headerBytes, entryBytes, rowBytes};
+ghost use Rattle.layout.specs.Reading.{numberAt};
 
 fn put_one(out: &mut [u8], at: usize, x: u64)
     requires { ⌜ at + 1 ≤ ListN·length (now out) ⌝ }
@@ -63,4 +65,32 @@ pub fn put_row(out: &mut [u8], at: usize, wing: u64, first: u64, days: u64)
     put_four(out, at, first);
     put_one(out, at + 4, days);
     put_one(out, at + 5, wing);
+}
+
+fn wide(byte: u8) -> u64
+    ensures { λ r. ⌜ (r ≡ byte) × (r < 256) ⌝ }
+{
+    byte as u64
+}
+
+// A step: the number in one byte, in two, in four, from a place on.
+pub fn one_at(bytes: &[u8], at: usize) -> u64
+    requires { ⌜ at + 1 ≤ ListN·length (now bytes) ⌝ }
+    ensures { λ r. ⌜ (r ≡ numberAt (now (bytes .entry)) at 1) × (r < 256) ⌝ }
+{
+    wide(bytes[at])
+}
+
+pub fn two_at(bytes: &[u8], at: usize) -> u64
+    requires { ⌜ at + 2 ≤ ListN·length (now bytes) ⌝ }
+    ensures { λ r. ⌜ (r ≡ numberAt (now (bytes .entry)) at 2) × (r < 65536) ⌝ }
+{
+    one_at(bytes, at) + 256 * one_at(bytes, at + 1)
+}
+
+pub fn four_at(bytes: &[u8], at: usize) -> u64
+    requires { ⌜ at + 4 ≤ ListN·length (now bytes) ⌝ }
+    ensures { λ r. ⌜ (r ≡ numberAt (now (bytes .entry)) at 4) × (r < 4294967296) ⌝ }
+{
+    two_at(bytes, at) + 65536 * two_at(bytes, at + 2)
 }

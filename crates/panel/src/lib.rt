@@ -28,4 +28,8 @@ pub use new_years::bd_year_of_day;
 pub use rest_days::bd_rest_days;
 pub use rest_days::bd_stretch;
 pub use rest_days::bd_stretches;
+pub use sheets::bd_sheet_rows;
 pub use sheets::bd_sheet_write;
+pub use sheets::bd_sheets_rows;
+pub use sheets::bd_walk_begin;
+pub use sheets::bd_walk_next;

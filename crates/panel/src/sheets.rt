@@ -1,6 +1,8 @@
-// The sheet that the panels load, of the wing that is named first. The lent bytes are as their owner's contract leaves them.
+// The sheet that the panels load, written and read back. The lent bytes are as their owner's contract leaves them.
 ghost use mathlib.Core.Path.{_≡_};
 ghost use Rattle.sheet.specs.Answers.{wingSheet, wingSheetBuffer};
+ghost use Rattle.loaded.specs.Rows.{rowsAnswer, namedAnswer};
+ghost use Rattle.loaded.specs.Walk.{begunAt, rowGiven, rowAfter};
 
 #[no_mangle]
 pub extern "C" fn bd_sheet_write(
@@ -12,4 +14,43 @@ pub extern "C" fn bd_sheet_write(
     ensures { λ r. ⌜ (r ≡ wingSheet wing «first_year» years (now (out .entry))) × (now (out .exit) ≡ wingSheetBuffer wing «first_year» years (now (out .entry))) ⌝ }
 {
     sheet::sheet_write(wing, first_year, years, out)
+}
+
+// A loaded sheet, as its bytes lie in the caller's memory: where a year's rows stand in it.
+#[no_mangle]
+pub extern "C" fn bd_sheet_rows(sheet: &[u8], year: u64) -> loaded::RowsAnswer
+    ensures { λ r. ⌜ r ≡ rowsAnswer (now (sheet .entry)) year ⌝ }
+{
+    loaded::rows_place(sheet, year)
+}
+
+#[no_mangle]
+pub extern "C" fn bd_sheets_rows(
+    named: u64,
+    sheet_1: &[u8],
+    sheet_2: &[u8],
+    year: u64,
+) -> loaded::RowsAnswer
+    ensures { λ r. ⌜ r ≡ namedAnswer named (now («sheet_1» .entry)) (now («sheet_2» .entry)) year ⌝ }
+{
+    loaded::sheets_place(named, sheet_1, sheet_2, year)
+}
+
+// The caller holds the walker, whose state is the number of the row that comes next, and lends the sheet at each call.
+#[no_mangle]
+pub extern "C" fn bd_walk_begin(walker: &mut u64, sheet: &[u8]) -> u64
+    ensures { λ n. ⌜ (n ≡ begunAt (now (sheet .entry)) .refusal) × (now (walker .exit) ≡ begunAt (now (sheet .entry)) .row) ⌝ }
+{
+    let b = loaded::first_row(sheet);
+    *walker = b.row;
+    b.refusal
+}
+
+#[no_mangle]
+pub extern "C" fn bd_walk_next(walker: &mut u64, sheet: &[u8]) -> loaded::Row
+    ensures { λ r. ⌜ (r ≡ rowGiven (now (sheet .entry)) (now (walker .entry))) × (now (walker .exit) ≡ rowAfter (now (sheet .entry)) (now (walker .entry))) ⌝ }
+{
+    let s = loaded::step_at(sheet, *walker);
+    *walker = s.next;
+    s.row
 }

@@ -7,13 +7,24 @@
 mod rows;
 
 ghost use mathlib.Core.Path.{_≡_};
-ghost use Rattle.sheet.specs.Answers.{wingSheet, wingSheetBuffer};
+ghost use Prim.Native.Nat.{_≤_};
+ghost use Rattle.sheet.specs.Sheet.{mostYears};
+ghost use Rattle.sheet.specs.Answers.{endsOutside, wingSheet, wingSheetBuffer};
 
 // The most years that a sheet holds.
-const MOST_YEARS: u64 = 100;
+pub const MOST_YEARS: u64 = 100;
 
 // The most bytes that any sheet takes, in either wing (theorem `most-bytes`).
 pub const SHEET_ROOM: usize = 34_650;
+
+// A step: does the first or the last of so many years lie outside 1..9999? The last year is first_year + years - 1, a sum
+// that the largest first years would not bear.
+pub fn ends_outside(first_year: u64, years: u64) -> bool
+    requires { ⌜ (1 ≤ years) × (years ≤ mostYears) ⌝ }
+    ensures { λ r. ⌜ r ≡ endsOutside «first_year» years ⌝ }
+{
+    (first_year < 1) | (molad::LAST_YEAR + 1 - years < first_year)
+}
 
 // The sheet of a wing for so many years, from the first year on. Refusal 15 for a wing that is neither 1 nor 2; 11 for
 // years that are not 1 to 100; 1 if the first or the last of them lies outside 1..9999; 10 for a buffer of too few bytes,
@@ -27,8 +38,7 @@ pub fn sheet_write(wing: u64, first_year: u64, years: u64, out: &mut [u8]) -> re
     if (years < 1) | (MOST_YEARS < years) {
         return rest::no_list(11);
     }
-    // The last year is first_year + years - 1, a sum that the largest first years would not bear.
-    if (first_year < 1) | (molad::LAST_YEAR + 1 - years < first_year) {
+    if ends_outside(first_year, years) {
         return rest::no_list(1);
     }
     let rows = rows::count_rows(wing, first_year, years);

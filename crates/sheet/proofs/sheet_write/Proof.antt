@@ -8,7 +8,7 @@ use borrow.Author.Tests.{lt-ltb, le-ltb}
 use lib.Seq.{length-sets}
 use Rattle.laws.specs.Runs.{outside}
 use Rattle.laws.proofs.Tests.{within}
-use Rattle.laws.proofs.Promises.{ranged, either, caught-alike}
+use Rattle.laws.proofs.Promises.{ranged, either}
 use Rattle.molad.specs.Years.{lastYear}
 use Rattle.rest.specs.Wings.{outOfWings}
 use Rattle.sheet.specs.Sheet.{mostYears, sheetSize}
@@ -16,13 +16,6 @@ use Rattle.sheet.specs.Answers.{endsOutside, sheetAnswer, sheetBuffer}
 use Rattle.sheet.proofs.Years.{all-written}
 use Rattle.sheet.proofs.sheet_write.Statement.{statement}
 use Rattle.sheet.proofs.sheet_write.Tie as tie
-
--- The last year is covered where the first comes early enough.
-ends : (h years : ℕ) → 1 ≤ years → years ≤ mostYears → outside 1 (lastYear + 1 - years) h ≡ endsOutside h years
-ends h years l u =
-    caught-alike (ranged 1 (lastYear + 1 - years) h) (either (ranged 1 lastYear h) (ranged 1 lastYear (h + years - 1)))
-    (λ m. ((omega arith, omega arith), (omega arith, omega arith)))
-    (λ m. (m .0 .0, omega (arith, m .1 .1)))
 
 returns : tie.Need-returns
 returns c =
@@ -48,11 +41,9 @@ returns-3 : tie.Need-returns-3
 unfolding sheetAnswer sheetBuffer
 returns-3 c =
     let t = c .before in
-    let s = t .before in
-    let a = s .before .before .before .before .args in
+    let s = t .before .before in
     let w = good-wing (s .before) in
-    let y = good-years s in
-    let e = sym (ends (a .first-year) (a .years) (y .0) (y .1)) ∙ t .if3 .taken in
+    let e = sym (t .before .ends-outside .ensures) ∙ t .if3 .taken in
     (rw (w, s .if2 .left, e) (c .no-list3 .ensures), rw (w, s .if2 .left, e))
 
 -- What is asked before the bytes are counted is met.
@@ -65,28 +56,29 @@ record Good (wing h years : ℕ) : Type 0 where
   from : 1 ≤ h
   to : h + years ≤ 10000
 
-good : (c : tie.Else3) → let a = c .before .before .before .before .before .args in Good (a .wing) (a .first-year) (a .years)
+good : (c : tie.Else3) → let a = c .before .before .before .before .before .before .args in Good (a .wing) (a .first-year) (a .years)
 good c =
-    let s = c .before in
+    let s = c .before .before in
     let a = s .before .before .before .before .args in
     let y = good-years s in
-    let f = within 1 (lastYear + 1 - a .years) (a .first-year) (c .if3 .left) in
+    let e = sym (c .before .ends-outside .ensures) ∙ c .if3 .left in
+    let f = either (ranged 1 lastYear (a .first-year)) (ranged 1 lastYear (a .first-year + a .years - 1)) .passes e in
     record {
       wing-good = good-wing (s .before);
       years-good = s .if2 .left;
-      ends-good = sym (ends (a .first-year) (a .years) (y .0) (y .1)) ∙ c .if3 .left;
+      ends-good = e;
       some = y .0;
       few = y .1;
-      from = f .0;
-      to = omega (arith, f .1, y .1);
+      from = f .0 .0;
+      to = omega (arith, f .1 .1);
     }
 
 -- So many bytes are wanted.
-wanted : (c : tie.After-count-rows) → let a = c .before .before .before .before .before .before .args in 16 + 8 * a .years + 6 * c .count-rows .result ≡ sheetSize (a .wing) (a .first-year) (a .years)
+wanted : (c : tie.After-count-rows) → let a = c .before .before .before .before .before .before .before .args in 16 + 8 * a .years + 6 * c .count-rows .result ≡ sheetSize (a .wing) (a .first-year) (a .years)
 unfolding sheetSize
 wanted c = rw (c .count-rows .ensures .0)
 
-small : (c : tie.After-count-rows) → let a = c .before .before .before .before .before .before .args in (a .years ≤ 100) × (c .count-rows .result ≤ 6000)
+small : (c : tie.After-count-rows) → let a = c .before .before .before .before .before .before .before .args in (a .years ≤ 100) × (c .count-rows .result ≤ 6000)
 small c = let g = good (c .before) in (g .few, omega (arith, g .few, c .count-rows .ensures .1))
 
 returns-4 : tie.Need-returns-4
@@ -104,7 +96,7 @@ returns-5 c =
     let p = y .before .before .before .before in
     let l = p .before .before in
     let n = l .before in
-    let a = n .before .before .before .before .before .before .args in
+    let a = n .before .before .before .before .before .before .before .args in
     let g = good (n .before) in
     let room = rw (wanted n) at (l .if4 .left) in
     let f = le-ltb _ _ room in
@@ -132,8 +124,7 @@ sheet-write-spec =
     returns
     (search needs)
     returns-2
-    (search needs)
-    (λ c. let y = good-years c in omega arith)
+    (λ c κs. good-years c)
     (search needs)
     returns-3
     (λ c κs. let g = good c in (g .from, (g .few, g .to)))

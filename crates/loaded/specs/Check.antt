@@ -1,0 +1,60 @@
+-- Whether bytes are taken for a sheet, by document 02. What stands in them is read as it is told; bytes that are not there
+-- count as 0, and are too few in any case.
+use mathlib.Core.Bool.{Bool, not, _&&_, _||_, cond}
+use mathlib.Core.List.{List}
+use Prim.Native.Nat.{ℕ, _+_, _*_}
+use lib.Dec.{eqb, ltb}
+use lib.ListN.{length}
+use Rattle.laws.specs.Runs.{every, outside}
+use Rattle.layout.specs.Layout.{indexOffset, rowsOffset}
+use Rattle.layout.specs.Reading.{numberAt}
+use Rattle.sheet.specs.Sheet.{mostYears}
+use Rattle.sheet.specs.Answers.{endsOutside}
+use Rattle.sheet.specs.Promises.{offsetTold, rowsToldBefore}
+
+-- What the header tells: the count of years, the first year, the count of rows, where the index and the rows stand.
+abbrev pub yearsTold : List ℕ → ℕ
+yearsTold bytes = numberAt bytes 0 2
+
+abbrev pub firstTold : List ℕ → ℕ
+firstTold bytes = numberAt bytes 2 2
+
+abbrev pub countTold : List ℕ → ℕ
+countTold bytes = numberAt bytes 4 4
+
+abbrev pub indexTold : List ℕ → ℕ
+indexTold bytes = numberAt bytes 8 4
+
+abbrev pub rowsAtTold : List ℕ → ℕ
+rowsAtTold bytes = numberAt bytes 12 4
+
+-- The year count, the first or the last year cannot come from a writer.
+abbrev pub strangeYears : List ℕ → Bool
+strangeYears bytes = outside 1 mostYears (yearsTold bytes) || endsOutside (firstTold bytes) (yearsTold bytes)
+
+-- The index offset of each of so many years is the rows' offset plus 6 for each row of the years before.
+abbrev pub entryPlaced : List ℕ → ℕ → ℕ → Bool
+entryPlaced bytes years i = eqb (offsetTold bytes i) (rowsOffset years + 6 * rowsToldBefore bytes i)
+
+unfoldable pub indexPlaced : List ℕ → ℕ → Bool
+indexPlaced bytes years = every 0 years (entryPlaced bytes years)
+
+-- The header's offsets are those of a sheet; its rows are the sum of the index's row counts; so is each index offset; the
+-- size is 16 + 8 × years + 6 × rows.
+unfoldable pub placed : List ℕ → Bool
+placed bytes =
+    eqb (indexTold bytes) indexOffset
+    && (eqb (rowsAtTold bytes) (rowsOffset (yearsTold bytes))
+    && (eqb (length bytes) (rowsOffset (yearsTold bytes) + 6 * countTold bytes)
+    && (indexPlaced bytes (yearsTold bytes)
+    && eqb (countTold bytes) (rowsToldBefore bytes (yearsTold bytes)))))
+
+-- What is given for bytes: refused with 16, 17 or 18, or given out where they are taken for a sheet.
+abbrev pub ofLoaded : {A : Type 0} → List ℕ → (ℕ → A) → A → A
+ofLoaded bytes refused given =
+    cond (ltb (length bytes) 16) (refused 16)
+    (cond (strangeYears bytes) (refused 17)
+    (cond (not (placed bytes)) (refused 18) given))
+
+unfoldable pub loadedRefusal : List ℕ → ℕ
+loadedRefusal bytes = ofLoaded bytes (λ n. n) 0

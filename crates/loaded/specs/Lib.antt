@@ -1,0 +1,4 @@
+pub mod Check
+pub mod Promises
+pub mod Rows
+pub mod Walk

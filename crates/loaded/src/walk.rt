@@ -1,0 +1,109 @@
+// One row after another.
+use crate::check::sheet_refusal;
+ghost use mathlib.Core.Path.{_≡_};
+ghost use Rattle.loaded.specs.Walk.{hasRow, stepAt, rowGiven, begunAt, begunOn, movedOn};
+
+// A row: the first day and the length of a stretch, and its wing. Where no row is left `more` is 0, as is all else; else 1.
+#[repr(C)]
+pub struct Row {
+    pub more: u64,
+    pub first: u64,
+    pub length: u64,
+    pub wing: u64,
+}
+
+// A row, and the number of the row after it.
+pub struct Stepped {
+    pub row: Row,
+    pub next: u64,
+}
+
+// Why no walk begins, or 0, and the number of its first row.
+pub struct Begun {
+    pub refusal: u64,
+    pub row: u64,
+}
+
+// The number of no row: no memory has room for so many.
+const NO_ROW: u64 = 18_446_744_073_709_551_615;
+
+// Has the sheet a row of this number? The header counts it, and all its bytes are there.
+fn has_row(sheet: &[u8], row: u64) -> bool
+    ensures { λ r. ⌜ r ≡ hasRow (now (sheet .entry)) row ⌝ }
+{
+    if sheet.len() < 16 {
+        return false;
+    }
+    if layout::four_at(sheet, 4) <= row {
+        return false;
+    }
+    16 + 8 * layout::two_at(sheet, 0) + 6 * row + 5 < sheet.len() as u64
+}
+
+// A step: the row of this number and the number after it; where there is no such row, no row and the same number.
+pub fn step_at(sheet: &[u8], row: u64) -> Stepped
+    ensures { λ r. ⌜ r ≡ stepAt (now (sheet .entry)) row ⌝ }
+{
+    if has_row(sheet, row) {
+        let at = (16 + 8 * layout::two_at(sheet, 0) + 6 * row) as usize;
+        return Stepped {
+            row: Row {
+                more: 1,
+                first: layout::four_at(sheet, at),
+                length: layout::one_at(sheet, at + 4),
+                wing: layout::one_at(sheet, at + 5),
+            },
+            next: row + 1,
+        };
+    }
+    Stepped {
+        row: Row {
+            more: 0,
+            first: 0,
+            length: 0,
+            wing: 0,
+        },
+        next: row,
+    }
+}
+
+// A step: where a walk through a sheet begins. On bytes that are not taken for a sheet, refusals 16, 17 and 18, it has
+// ended already.
+pub fn first_row(sheet: &[u8]) -> Begun
+    ensures { λ r. ⌜ r ≡ begunAt (now (sheet .entry)) ⌝ }
+{
+    let refusal = sheet_refusal(sheet);
+    if refusal != 0 {
+        return Begun {
+            refusal,
+            row: NO_ROW,
+        };
+    }
+    Begun { refusal: 0, row: 0 }
+}
+
+// A sheet, and the number of the row that it hands out next.
+pub struct Walker<'a> {
+    pub sheet: &'a [u8],
+    pub row: u64,
+}
+
+// A walk from the sheet's first row on, with the refusal number, as of `first_row`.
+pub fn begin<'a>(sheet: &'a [u8], refusal: &mut u64) -> Walker<'a>
+    ensures { λ w. ⌜ (w ≡ begunOn (sheet .entry)) × (now (refusal .exit) ≡ begunAt (now (sheet .entry)) .refusal) ⌝ }
+{
+    let b = first_row(sheet);
+    *refusal = b.refusal;
+    Walker { sheet, row: b.row }
+}
+
+impl<'a> Walker<'a> {
+    // The next row, until none is left.
+    pub fn next(&mut self) -> Row
+        ensures { λ r. ⌜ (r ≡ rowGiven (now (now (self .entry) .sheet)) (now (self .entry) .row)) × (now (self .exit) ≡ movedOn (now (self .entry))) ⌝ }
+    {
+        let s = step_at(self.sheet, self.row);
+        self.row = s.next;
+        s.row
+    }
+}

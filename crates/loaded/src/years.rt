@@ -1,0 +1,95 @@
+// A year's own rows, in one sheet and in the one of two that is named.
+use crate::check::sheet_refusal;
+ghost use mathlib.Core.Path.{_≡_};
+ghost use Prim.Native.Nat.{_+_};
+ghost use Rattle.loaded.specs.Rows.{noRows, rowsAnswer, rowsOf, namedSheet, namedAnswer};
+
+// Where a year's rows stand: from which byte of the sheet on, and how many bytes they are.
+#[repr(C)]
+pub struct RowsAnswer {
+    pub refusal: u64,
+    pub offset: u64,
+    pub length: u64,
+}
+
+fn no_rows(refusal: u64) -> RowsAnswer
+    ensures { λ r. ⌜ r ≡ noRows refusal ⌝ }
+{
+    RowsAnswer {
+        refusal,
+        offset: 0,
+        length: 0,
+    }
+}
+
+// The place of a year's rows in a sheet. Refusals 16, 17 and 18 for bytes that are not taken for a sheet; 1 for a year that
+// is not on it.
+pub fn rows_place(sheet: &[u8], year: u64) -> RowsAnswer
+    ensures { λ r. ⌜ r ≡ rowsAnswer (now (sheet .entry)) year ⌝ }
+{
+    let refusal = sheet_refusal(sheet);
+    if refusal != 0 {
+        return no_rows(refusal);
+    }
+    let first_year = layout::two_at(sheet, 2);
+    if (year < first_year) | (first_year + layout::two_at(sheet, 0) - 1 < year) {
+        return no_rows(1);
+    }
+    let entry = 16 + 8 * (year - first_year) as usize;
+    RowsAnswer {
+        refusal: 0,
+        offset: layout::four_at(sheet, entry),
+        length: 6 * layout::two_at(sheet, entry + 4),
+    }
+}
+
+// A year's rows, still inside the sheet; an empty part of it where the number, as of `rows_place`, is not 0.
+pub fn sheet_rows<'a>(sheet: &'a [u8], year: u64, refusal: &mut u64) -> &'a [u8]
+    ensures { λ r. ⌜ (now r ≡ rowsOf (now (sheet .entry)) (rowsAnswer (now (sheet .entry)) year))
+        × (now (refusal .exit) ≡ rowsAnswer (now (sheet .entry)) year .refusal)
+        × (r .ptr .0 ≡ sheet .entry .ptr .0)
+        × (r .ptr .1 ≡ sheet .entry .ptr .1 + rowsAnswer (now (sheet .entry)) year .offset) ⌝ }
+{
+    let place = rows_place(sheet, year);
+    *refusal = place.refusal;
+    let start = place.offset as usize;
+    let end = start + place.length as usize;
+    &sheet[start..end]
+}
+
+// The same of two sheets, by the number of the one that is named: 1 or 2, as the wings that they are for. Refusal 15, before
+// all others, for any other number. The sheet that is not named is not looked at.
+pub fn sheets_place(named: u64, sheet_1: &[u8], sheet_2: &[u8], year: u64) -> RowsAnswer
+    ensures { λ r. ⌜ r ≡ namedAnswer named (now («sheet_1» .entry)) (now («sheet_2» .entry)) year ⌝ }
+{
+    if rest::out_of_wings(named) {
+        return no_rows(15);
+    }
+    if named == 2 {
+        return rows_place(sheet_2, year);
+    }
+    rows_place(sheet_1, year)
+}
+
+// A year's rows, still inside the sheet that is named; an empty part where the number, as of `sheets_place`, is not 0.
+pub fn sheets_rows<'a>(
+    named: u64,
+    sheet_1: &'a [u8],
+    sheet_2: &'a [u8],
+    year: u64,
+    refusal: &mut u64,
+) -> &'a [u8]
+    ensures { λ r. ⌜ (now r ≡ rowsOf (namedSheet named (now («sheet_1» .entry)) (now («sheet_2» .entry))) (namedAnswer named (now («sheet_1» .entry)) (now («sheet_2» .entry)) year))
+        × (now (refusal .exit) ≡ namedAnswer named (now («sheet_1» .entry)) (now («sheet_2» .entry)) year .refusal)
+        × (r .ptr .0 ≡ namedSheet named («sheet_1» .entry .ptr .0) («sheet_2» .entry .ptr .0))
+        × (r .ptr .1 ≡ namedSheet named («sheet_1» .entry .ptr .1) («sheet_2» .entry .ptr .1) + namedAnswer named (now («sheet_1» .entry)) (now («sheet_2» .entry)) year .offset) ⌝ }
+{
+    if rest::out_of_wings(named) {
+        *refusal = 15;
+        return &sheet_1[..0];
+    }
+    if named == 2 {
+        return sheet_rows(sheet_2, year, refusal);
+    }
+    sheet_rows(sheet_1, year, refusal)
+}
