@@ -57,6 +57,17 @@ unfolding total
 total-split f m zero = let e : m + 0 ≡ m = omega arith in rw e (omega arith)
 total-split f m (suc n) = let e : m + suc n ≡ suc (m + n) = omega arith in rw (e, total-split f m n) (omega arith)
 
+pub joined-split : (part : ℕ → List ℕ) (m n : ℕ) → joined part (m + n) ≡ joined part m ++ joined (λ i. part (m + i)) n
+unfolding joined
+joined-split part m zero = let e : m + 0 ≡ m = omega arith in rw e (sym (append-nil (joined part m)))
+joined-split part m (suc n) = let e : m + suc n ≡ suc (m + n) = omega arith in rw (e, joined-split part m n) (append-assoc (joined part m) (joined (λ i. part (m + i)) n) (part (m + n)))
+
+-- A row of lists, cut into rows of so many each.
+pub joined-rows : (part : ℕ → List ℕ) (f : ℕ → ℕ) (n : ℕ) → joined part (total f n) ≡ joined (λ i. joined (λ k. part (total f i + k)) (f i)) n
+unfolding joined total
+joined-rows part f zero = refl
+joined-rows part f (suc n) = rw (joined-split part (total f n) (f n), joined-rows part f n)
+
 -- Rows that agree are one.
 pub joined-alike : (f g : ℕ → List ℕ) (n : ℕ) → ((i : ℕ) → i < n → f i ≡ g i) → joined f n ≡ joined g n
 unfolding joined

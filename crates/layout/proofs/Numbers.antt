@@ -1,11 +1,11 @@
 -- A number that its bytes can hold is read back from them.
 use mathlib.Core.Path.{_≡_, refl, ap}
 use mathlib.Core.List.{List, [], _∷_, _++_}
-use Prim.Native.Nat.{ℕ, zero, suc, _+_, _*_, _/_, _<_}
+use Prim.Native.Nat.{ℕ, zero, suc, _+_, _*_, _-_, _/_, _≤_, _<_}
 use native.Mathlib.Omega.{arith}
 use native.Mathlib.Numerals.{add-one}
-use lib.ListN.{length, getD, length-append}
-use lib.Seq.{drop-cons}
+use lib.ListN.{length, getD, take, drop, length-append, length-drop}
+use lib.Seq.{drop-cons, length-take-le, take-add, take-take, drop-drop, drop-at}
 use Rattle.laws.proofs.Joins.{Holds, held-part, holds-in, holds-first, holds-second}
 use Rattle.layout.specs.Layout.{littleEndian}
 use Rattle.layout.specs.Reading.{worth, numberAt}
@@ -70,3 +70,14 @@ number-two bytes at n p =
     let first = number-more bytes at (suc n) (omega arith) in
     let second = rw e at (number-more bytes (at + 1) n p) in
     omega (arith, first, second, number-more bytes at 1 (omega arith), number-one bytes (at + 1) p)
+
+-- What stands in a part stands in the whole.
+in-part : (list : List ℕ) (n j m : ℕ) → j + m ≤ n → n ≤ length list → take m (drop j (take n list)) ≡ take m (drop j list)
+in-part list n j m p q =
+    let e : n ≡ j + (n - j) = omega arith in
+    rw (e, take-add j (n - j) list, drop-at (take j list) (take (n - j) (drop j list)) j (length-take-le j list (omega arith)), take-take m (n - j) (drop j list) (omega arith))
+
+pub number-in-part : (bytes : List ℕ) (at n j m : ℕ) → j + m ≤ n → at + n ≤ length bytes → numberAt (take n (drop at bytes)) j m ≡ numberAt bytes (at + j) m
+unfolding numberAt
+number-in-part bytes at n j m p q =
+    rw (in-part (drop at bytes) n j m p (rw (length-drop at bytes) (omega arith)), drop-drop j at bytes)

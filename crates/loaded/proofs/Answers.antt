@@ -1,20 +1,25 @@
 -- What the answers about a loaded sheet promise, and that their contracts leave one answer.
 use mathlib.Core.Path.{_≡_, refl}
 use mathlib.Core.Bool.{cond}
-use mathlib.Core.List.{List}
+use mathlib.Core.List.{List, []}
 use mathlib.Core.Logic.{by-cases}
 use Prim.Native.Nat.{ℕ, _+_, _*_, _-_, _≤_}
 use native.Mathlib.Omega.{arith}
 use native.Mathlib.Decide.{ℕ-discrete}
 use lib.ListN.{length}
+use denote.Ref.{RefT}
 use Rattle.laws.proofs.One.{one-result}
 use Rattle.laws.proofs.Promises.{ranged, asks, answered}
 use Rattle.rest.proofs.Wings.{wing-promised}
 use Rattle.sheet.specs.Promises.{offsetTold, rowsTold}
 use Rattle.loaded.specs.Check.{yearsTold, firstTold, loadedRefusal}
-use Rattle.loaded.specs.Rows.{noRows, offSheet, rowsAnswer, namedSheet, namedAnswer}
-use Rattle.loaded.specs.Promises.{RowsOfYear, PromisedRows, PromisedNamed}
+use Rattle.loaded.specs.Rows.{noRows, offSheet, rowsAnswer, rowsOf, namedSheet, namedAnswer}
+use Rattle.loaded.specs.Promises.{EmptyPart, PromisedRows, PromisedNamed}
+use Rattle.loaded.specs.Walk.{stepAt, begunAt, begunOn, movedOn}
 use Rattle.loaded.specs.declared.years.RowsAnswer.{RowsAnswer}
+use Rattle.loaded.specs.declared.walk.Begun.{Begun}
+use Rattle.loaded.specs.declared.walk.Stepped.{Stepped}
+use Rattle.loaded.specs.declared.walk.Walker.{Walker}
 use Rattle.loaded.proofs.Accepted.{where-accepted, where-refused, loaded-promised, rows-inside}
 
 module _ (bytes : List ℕ) (year : ℕ) where
@@ -48,8 +53,44 @@ module _ (bytes : List ℕ) (year : ℕ) where
   pub rows-one : (r s : RowsAnswer) → r ≡ rowsAnswer bytes year → s ≡ rowsAnswer bytes year → r ≡ s
   rows-one = one-result (rowsAnswer bytes year)
 
+-- An empty part has no bytes.
+pub empty-part : (bytes : List ℕ) (n : ℕ) (place : RowsAnswer) → EmptyPart n place → rowsOf bytes place ≡ []
+empty-part bytes n place e = rw (e .1)
+
 -- Of two sheets: 15 is asked before all else, and the rest of the sheet that is named.
-pub named-promised : (named : ℕ) (one two : List ℕ) (year : ℕ) → PromisedNamed named one two year (namedAnswer named one two year)
-named-promised named one two year =
-    let bytes = namedSheet named one two in
-    wing-promised named (noRows 15) (λ _. rowsAnswer bytes year) refl (refl, refl) (rows-promised bytes year)
+module _ (named : ℕ) (one two : List ℕ) (year : ℕ) where
+  pub named-promised : PromisedNamed named one two year (namedAnswer named one two year)
+  named-promised =
+      let bytes = namedSheet named one two in
+      wing-promised named (noRows 15) (λ _. rowsAnswer bytes year) refl (refl, refl) (rows-promised bytes year)
+
+  pub named-one : (r s : RowsAnswer) → r ≡ namedAnswer named one two year → s ≡ namedAnswer named one two year → r ≡ s
+  named-one = one-result (namedAnswer named one two year)
+
+-- Number 1 names the first sheet and number 2 the second, and the other is not looked at. So it is of the places in memory.
+pub names-first : (one two : List ℕ) (year : ℕ) → namedAnswer 1 one two year ≡ rowsAnswer one year
+names-first one two year = refl
+
+pub names-second : (one two : List ℕ) (year : ℕ) → namedAnswer 2 one two year ≡ rowsAnswer two year
+names-second one two year = refl
+
+pub named-place : (one two : ℕ) → (namedSheet 1 one two ≡ one) × (namedSheet 2 one two ≡ two)
+named-place one two = (refl, refl)
+
+-- One answer of each step.
+module _ (bytes : List ℕ) where
+  pub refusal-one : (r s : ℕ) → r ≡ loadedRefusal bytes → s ≡ loadedRefusal bytes → r ≡ s
+  refusal-one = one-result (loadedRefusal bytes)
+
+  pub begun-one : (r s : Begun) → r ≡ begunAt bytes → s ≡ begunAt bytes → r ≡ s
+  begun-one = one-result (begunAt bytes)
+
+  pub step-one : (k : ℕ) (r s : Stepped) → r ≡ stepAt bytes k → s ≡ stepAt bytes k → r ≡ s
+  step-one k = one-result (stepAt bytes k)
+
+-- One walker that is begun, and one that has moved on.
+pub begin-one : (sheet : RefT (List ℕ)) (r s : Walker) → r ≡ begunOn sheet → s ≡ begunOn sheet → r ≡ s
+begin-one sheet = one-result (begunOn sheet)
+
+pub moved-one : (walker r s : Walker) → r ≡ movedOn walker → s ≡ movedOn walker → r ≡ s
+moved-one walker = one-result (movedOn walker)

@@ -1,16 +1,20 @@
 -- What a caller who lends a loaded sheet is given.
 use mathlib.Core.Path.{_≡_}
 use mathlib.Core.List.{List, [], _∷_}
-use Prim.Native.Nat.{ℕ, _+_, _*_, _-_, _≤_, _<_}
-use lib.ListN.{length}
+use Prim.Native.Nat.{ℕ, zero, suc, _+_, _*_, _-_, _/_, _≤_, _<_}
+use lib.ListN.{length, getD}
+use Rattle.laws.specs.Joined.{joined}
 use Rattle.laws.specs.Promise.{Asked, _else_, Promised}
 use Rattle.molad.specs.Years.{InYears}
-use Rattle.rest.specs.Wings.{IsWing}
-use Rattle.sheet.specs.Sheet.{mostYears}
+use Rattle.rest.specs.Wings.{IsWing, tableOf}
+use Rattle.stretch.specs.Stretches.{stretchRows}
+use Rattle.sheet.specs.Sheet.{mostYears, yearRows, rowsBefore}
 use Rattle.sheet.specs.Promises.{offsetTold, rowsTold, rowsToldBefore}
-use Rattle.loaded.specs.Check.{yearsTold, firstTold, countTold, indexTold, rowsAtTold}
-use Rattle.loaded.specs.Rows.{namedSheet}
+use Rattle.loaded.specs.Check.{yearsTold, firstTold, countTold, indexTold, rowsAtTold, loadedRefusal}
+use Rattle.loaded.specs.Rows.{rowsAnswer, rowsOf, namedSheet}
+use Rattle.loaded.specs.Walk.{rowPlace, noMore, rowRead, rowGiven, rowAfter, noRow, begunAt}
 use Rattle.loaded.specs.declared.years.RowsAnswer.{RowsAnswer}
+use Rattle.loaded.specs.declared.walk.Row.{Row}
 
 -- The year count, the first and the last year can come from a writer.
 abbrev pub WritersYears : List ℕ → Type 0
@@ -57,3 +61,48 @@ abbrev pub PromisedNamed : ℕ → List ℕ → List ℕ → ℕ → RowsAnswer 
 PromisedNamed named one two year =
     let bytes = namedSheet named one two in
     Promised (λ (r : RowsAnswer). r .refusal) (IsWing named else 15 ∷ askedOfRows bytes year) (RowsOfYear bytes year) EmptyPart
+
+-- The row at which a walker from row k on is after n calls of `next`, and what the call after these hands out.
+unfoldable pub placeAfter : List ℕ → ℕ → ℕ → ℕ
+placeAfter bytes k zero = k
+placeAfter bytes k (suc n) = rowAfter bytes (placeAfter bytes k n)
+
+abbrev pub handedOut : List ℕ → ℕ → ℕ → Row
+handedOut bytes k n = rowGiven bytes (placeAfter bytes k n)
+
+-- A walk from where it begins: each row that the header counts, in turn, then no more for ever. Begun on bytes that are
+-- refused it has ended already, if they are no more than memory can hold.
+pub record WalkOf (bytes : List ℕ) : Type 0 where
+  pub refusal : begunAt bytes .refusal ≡ loadedRefusal bytes
+  pub rows : loadedRefusal bytes ≡ 0 → (n : ℕ) → n < countTold bytes → handedOut bytes (begunAt bytes .row) n ≡ rowRead bytes (rowPlace bytes n)
+  pub no-more : loadedRefusal bytes ≡ 0 → (n : ℕ) → countTold bytes ≤ n → handedOut bytes (begunAt bytes .row) n ≡ noMore
+  pub ended : (¬ (loadedRefusal bytes ≡ 0)) → length bytes ≤ noRow → (n : ℕ) → handedOut bytes (begunAt bytes .row) n ≡ noMore
+
+-- The numbers of a row; those that the first n calls of a walk hand out; those of the rows in a part.
+abbrev pub rowNumbers : Row → List ℕ
+rowNumbers r = r .first ∷ r .length ∷ r .wing ∷ []
+
+abbrev pub rowsWalked : List ℕ → ℕ → List ℕ
+rowsWalked bytes n = joined (λ k. rowNumbers (handedOut bytes (begunAt bytes .row) k)) n
+
+abbrev pub rowsInPart : List ℕ → List ℕ
+rowsInPart part = joined (λ k. rowNumbers (rowRead part (6 * k))) (length part / 6)
+
+-- The part that is shown for the sheet's year i, counted from 0. Put together, the rows by year are the rows walked.
+abbrev pub yearPart : List ℕ → ℕ → List ℕ
+yearPart bytes i = rowsOf bytes (rowsAnswer bytes (firstTold bytes + i))
+
+abbrev pub Together : List ℕ → Type 0
+Together bytes = joined (λ i. rowsInPart (yearPart bytes i)) (yearsTold bytes) ≡ rowsWalked bytes (countTold bytes)
+
+-- A year's stretches, each with its wing.
+abbrev pub withWing : ℕ → List ℕ → List ℕ
+withWing wing list = joined (λ k. getD list (2 * k) 0 ∷ getD list (2 * k + 1) 0 ∷ wing ∷ []) (length list / 2)
+
+-- The bytes are taken for a sheet and yield what a writer has written for so many years, from year h on: by year, and by
+-- walking from the first row to the last.
+pub record Yields (wing h years : ℕ) (bytes : List ℕ) : Type 0 where
+  pub accepted : loadedRefusal bytes ≡ 0
+  pub by-year : (i : ℕ) → i < years → (rowsAnswer bytes (h + i) .refusal ≡ 0) × (rowsOf bytes (rowsAnswer bytes (h + i)) ≡ yearRows wing (h + i))
+  pub counted : countTold bytes ≡ rowsBefore wing h years
+  pub walked : rowsWalked bytes (rowsBefore wing h years) ≡ joined (λ i. withWing wing (stretchRows (tableOf wing) (h + i))) years

@@ -1,5 +1,6 @@
 -- What `sheet_write` promises, and that its contract leaves one answer and one state of the lent bytes.
 use mathlib.Core.Path.{_≡_, refl, sym, _∙_}
+use mathlib.Core.Bool.{Bool}
 use mathlib.Core.List.{List}
 use Prim.Native.Nat.{ℕ, _+_, _-_, _≤_}
 use native.Mathlib.Omega.{arith}
@@ -12,6 +13,7 @@ use Rattle.laws.proofs.One.{one-result}
 use Rattle.laws.proofs.Stores.{list-written, lent-done, lent-unless}
 use Rattle.laws.proofs.Promises.{Catches, ranged, either, asks, answered}
 use Rattle.molad.specs.Years.{lastYear}
+use Rattle.rest.specs.Wings.{IsWing}
 use Rattle.rest.specs.Answers.{noList}
 use Rattle.rest.specs.declared.ListAnswer.{ListAnswer}
 use Rattle.rest.proofs.Wings.{wing-promised, wing-lent}
@@ -47,17 +49,22 @@ module _ (wing h years : ℕ) (buffer : List ℕ) where
       (unless (ltb (length buffer) (sheetSize wing h years)) (record { refusal = 10; count = sheetSize wing h years }) _ list buffer _ (omega arith)
       (lent-done 0 list buffer refl))))
 
-  -- What stands in the bytes when the call is done: a sheet of these years.
-  pub sheet-given :
-      wingSheet wing h years buffer .refusal ≡ 0 →
-      SheetOf wing h years (take (wingSheet wing h years buffer .count) (wingSheetBuffer wing h years buffer))
-  sheet-given z =
+  -- What stands in the bytes when the call is done is what the sheet of these years is.
+  pub sheet-written :
+      (P : List ℕ → Type 0) → (IsWing wing → 1 ≤ years → years ≤ mostYears → 1 ≤ h → h + years ≤ 10000 → P (sheet wing h years)) →
+      wingSheet wing h years buffer .refusal ≡ 0 → P (take (wingSheet wing h years buffer .count) (wingSheetBuffer wing h years buffer))
+  sheet-written P p z =
       let t = sheet-promised in
       let met = t .done .0 z in
       let y = met .1 .0 in
       let ends = met .1 .1 .0 in
       rw (list-written (sheet wing h years) buffer _ _ _ sheet-lent z (sheet-long wing h years ∙ sym (t .values met)))
-      (sheet-of wing h years (met .0) (y .0) (y .1) (ends .0 .0) (omega (arith, ends .1 .1)))
+      (p (met .0) (y .0) (y .1) (ends .0 .0) (omega (arith, ends .1 .1)))
+
+  pub sheet-given :
+      wingSheet wing h years buffer .refusal ≡ 0 →
+      SheetOf wing h years (take (wingSheet wing h years buffer .count) (wingSheetBuffer wing h years buffer))
+  sheet-given = sheet-written (SheetOf wing h years) (sheet-of wing h years)
 
   -- One answer, and one state of the bytes.
   pub sheet-one : (r s : ListAnswer) → r ≡ wingSheet wing h years buffer → s ≡ wingSheet wing h years buffer → r ≡ s
@@ -65,3 +72,7 @@ module _ (wing h years : ℕ) (buffer : List ℕ) where
 
   pub sheet-buffer-one : (r s : List ℕ) → r ≡ wingSheetBuffer wing h years buffer → s ≡ wingSheetBuffer wing h years buffer → r ≡ s
   sheet-buffer-one = one-result (wingSheetBuffer wing h years buffer)
+
+-- One answer of the step that a reader asks too.
+pub ends-outside-one : (h years : ℕ) (r s : Bool) → r ≡ endsOutside h years → s ≡ endsOutside h years → r ≡ s
+ends-outside-one h years = one-result (endsOutside h years)

@@ -72,13 +72,13 @@ module _ (wing h years : ℕ) (w : IsWing wing) (some : 1 ≤ years) (at-most : 
       holds-in bytes index (entryOf wing h years i) 16 _ (16 + 8 * i) index-held
       (holds-each (entryOf wing h years) years i p) (omega (arith, index-long wing h years i))
 
-  year-held : (i : ℕ) → i < years → Holds bytes (rowsOffset years + 6 * rowsBefore wing h i) (yearRows wing (h + i))
+  pub year-held : (i : ℕ) → i < years → Holds bytes (rowsOffset years + 6 * rowsBefore wing h i) (yearRows wing (h + i))
   year-held i p =
       holds-in bytes rows (yearRows wing (h + i)) (rowsOffset years) _ (rowsOffset years + 6 * rowsBefore wing h i) rows-held
       (holds-each (λ i. yearRows wing (h + i)) years i p) (omega (arith, years-long wing h i))
 
   -- The index, read back.
-  entry-told :
+  pub entry-told :
       (i : ℕ) → i < years →
       (offsetTold bytes i ≡ rowsOffset years + 6 * rowsBefore wing h i) × ((rowsTold bytes i ≡ rowsIn wing (h + i)) × (lengthTold bytes i ≡ yearLength (h + i)))
   unfolding offsetTold rowsTold lengthTold entryOf entryBytes
@@ -87,12 +87,12 @@ module _ (wing h years : ℕ) (w : IsWing wing) (some : 1 ≤ years) (at-most : 
       three-back bytes (16 + 8 * i) 4 2 2 (rowsOffset years + 6 * rowsBefore wing h i) (rowsIn wing (h + i)) (yearLength (h + i)) (entry-held i p)
       (omega (arith, few-before i (omega arith))) (omega (arith, rows-few wing (h + i) y)) (omega (arith, length-in (h + i) (y .0) (omega arith) .long))
 
-  before-told : (n : ℕ) → n ≤ years → rowsToldBefore bytes n ≡ rowsBefore wing h n
+  pub before-told : (n : ℕ) → n ≤ years → rowsToldBefore bytes n ≡ rowsBefore wing h n
   unfolding rowsToldBefore rowsBefore
   before-told n p = total-alike (rowsTold bytes) (λ i. rowsIn wing (h + i)) n (λ i q. entry-told i (omega arith) .1 .0)
 
   -- The header, read back.
-  header-told :
+  pub header-told :
       (numberAt bytes 0 2 ≡ years) × ((numberAt bytes 2 2 ≡ h) × ((numberAt bytes 4 4 ≡ rowsBefore wing h years) × ((numberAt bytes 8 4 ≡ 16) × (numberAt bytes 12 4 ≡ rowsOffset years))))
   unfolding headerBytes littleEndian
   header-told =
@@ -125,7 +125,7 @@ module _ (wing h years : ℕ) (w : IsWing wing) (some : 1 ≤ years) (at-most : 
       let days = either-wing wing .at-most-three f c run in
       (rest-in-range (tableOf wing) f (run .passes f (omega arith) (omega (arith, days .0))) .1, days .1)
 
-  row-told :
+  pub row-told :
       (i k : ℕ) → i < years → k < rowsIn wing (h + i) →
       let at = rowsOffset years + 6 * rowsBefore wing h i + 6 * k in
       (numberAt bytes at 4 ≡ getD (list i) (2 * k) 0) × ((numberAt bytes (at + 4) 1 ≡ getD (list i) (2 * k + 1) 0) × (numberAt bytes (at + 5) 1 ≡ wing))

@@ -1,0 +1,99 @@
+-- A sheet that was written is taken for a sheet, and yields what was written.
+use mathlib.Core.Path.{_≡_, _∙_}
+use mathlib.Core.List.{List}
+use Prim.Native.Nat.{ℕ, _+_, _*_, _≤_, _<_}
+use native.Mathlib.Omega.{arith}
+use lib.ListN.{take}
+use Rattle.laws.specs.Joined.{joined}
+use Rattle.laws.proofs.Joins.{held-part, joined-alike, joined-rows}
+use Rattle.layout.specs.Layout.{rowsOffset}
+use Rattle.rest.specs.Wings.{IsWing, tableOf}
+use Rattle.stretch.specs.Stretches.{stretchRows}
+use Rattle.sheet.specs.Sheet.{mostYears, rowsIn, yearRows, rowsBefore, sheet}
+use Rattle.sheet.specs.Answers.{wingSheet, wingSheetBuffer}
+use Rattle.sheet.specs.Promises.{SheetOf}
+use Rattle.sheet.proofs.Sizes.{year-long}
+use Rattle.sheet.proofs.ReadBack.{year-held, entry-told, header-told, row-told, sheet-of}
+use Rattle.sheet.proofs.Answers.{sheet-written}
+use Rattle.loaded.specs.Check.{countTold, loadedRefusal}
+use Rattle.loaded.specs.Rows.{rowsAnswer, rowsOf}
+use Rattle.loaded.specs.Walk.{rowPlace, rowRead}
+use Rattle.loaded.specs.Promises.{rowNumbers, rowsWalked, withWing, Yields}
+use Rattle.loaded.proofs.Accepted.{refusal-promised}
+use Rattle.loaded.proofs.Together.{year-place}
+use Rattle.loaded.proofs.Walks.{walk-of}
+
+-- What header and index tell of a sheet is all that is asked of it.
+pub sheet-accepted :
+    (wing h years : ℕ) (bytes : List ℕ) → 1 ≤ years → years ≤ mostYears → 1 ≤ h → h + years ≤ 10000 →
+    SheetOf wing h years bytes → loadedRefusal bytes ≡ 0
+sheet-accepted wing h years bytes some most from to s =
+    let y = s .years-told in
+    let f = s .first-told in
+    refusal-promised bytes .done .1 (
+      omega (arith, s .all),
+      (
+        rw (y, f) ((some, most), ((from, omega arith), (omega arith, omega arith))),
+        (
+          record {
+            index-offset = s .index-offset;
+            rows-offset = rw y (s .rows-offset);
+            rows-counted = rw y (s .rows-told);
+            offsets = rw y (s .offsets);
+            size = rw (y, s .rows-told) (s .all);
+          },
+          tt,
+        ),
+      ),
+    )
+
+module _ (wing h years : ℕ) (w : IsWing wing) (some : 1 ≤ years) (most : years ≤ mostYears) (from : 1 ≤ h) (to : h + years ≤ 10000) where
+  abbrev bytes : List ℕ
+  bytes = sheet wing h years
+
+  told : SheetOf wing h years bytes
+  told = sheet-of wing h years w some most from to
+
+  taken : loadedRefusal bytes ≡ 0
+  taken = sheet-accepted wing h years bytes some most from to told
+
+  -- A year's part.
+  year-part : (i : ℕ) → i < years → (rowsAnswer bytes (h + i) .refusal ≡ 0) × (rowsOf bytes (rowsAnswer bytes (h + i)) ≡ yearRows wing (h + i))
+  year-part i p =
+      let e = entry-told wing h years w some most from to i p in
+      let place = rw (told .first-told) at (year-place bytes taken i (rw (told .years-told) p)) in (
+        rw place,
+        rw (place, e .0, e .1 .0)
+            (held-part bytes (yearRows wing (h + i)) (rowsOffset years + 6 * rowsBefore wing h i) (6 * rowsIn wing (h + i)) (year-held wing h years w some most from to i p) (year-long wing (h + i))),
+      )
+
+  counted : countTold bytes ≡ rowsBefore wing h years
+  counted = header-told wing h years w some most from to .1 .1 .0
+
+  -- The rows, from the first to the last.
+  abbrev read : ℕ → List ℕ
+  read k = rowNumbers (rowRead bytes (rowPlace bytes k))
+
+  year-read : (i : ℕ) → i < years → joined (λ k. read (rowsBefore wing h i + k)) (rowsIn wing (h + i)) ≡ withWing wing (stretchRows (tableOf wing) (h + i))
+  unfolding rowsIn
+  year-read i p =
+      joined-alike _ _ (rowsIn wing (h + i)) (λ k q.
+      let e : rowPlace bytes (rowsBefore wing h i + k) ≡ rowsOffset years + 6 * rowsBefore wing h i + 6 * k = omega (arith, told .years-told) in
+      let t = row-told wing h years w some most from to i k p q in
+      rw (e, t .0, t .1 .0, t .1 .1))
+
+  all-walked : rowsWalked bytes (rowsBefore wing h years) ≡ joined (λ i. withWing wing (stretchRows (tableOf wing) (h + i))) years
+  unfolding rowsBefore
+  all-walked =
+      joined-alike _ read (rowsBefore wing h years) (λ k q. rw (walk-of bytes .rows taken k (rw counted q)))
+      ∙ joined-rows read (λ i. rowsIn wing (h + i)) years
+      ∙ joined-alike _ _ years year-read
+
+  pub sheet-yields : Yields wing h years bytes
+  sheet-yields = record { accepted = taken; by-year = year-part; counted = counted; walked = all-walked }
+
+-- What `sheet_write` leaves in the lent bytes is taken for a sheet, and yields what was written.
+pub written-yields :
+    (wing h years : ℕ) (buffer : List ℕ) → wingSheet wing h years buffer .refusal ≡ 0 →
+    Yields wing h years (take (wingSheet wing h years buffer .count) (wingSheetBuffer wing h years buffer))
+written-yields wing h years buffer = sheet-written wing h years buffer (Yields wing h years) (sheet-yields wing h years)
