@@ -1,5 +1,5 @@
 # make help lists what can be asked for; README.md has the rest.
-.PHONY: help year notice sheet test panel lib install uninstall clean
+.PHONY: help year notice sheet sheet-show test panel lib install uninstall clean
 
 # The lines of README.md that begin with make.
 help:
@@ -27,6 +27,10 @@ notice:
 # A wing, the first year, how many years, and the file to write; one that is missing is refused as an empty one is.
 sheet:
 	@tools/sheet "$${WING-}" "$${FIRST-}" "$${YEARS-}" "$${FILE-}"
+
+# The file to show. CC names another compiler, for x86-64 Linux.
+sheet-show:
+	@examples/run sheet_show "$${FILE-}"
 
 # Without a WING, wing 1; without a DATE, today. CC names another compiler, for x86-64 Linux.
 panel:

@@ -3,8 +3,9 @@
  *
  * Every call is a question with one answer. An answer is a struct whose first number is the refusal: BD_DONE (0), or
  * why there is no answer. Every other number of a refused answer is 0, but that BD_BUFFER_TOO_SHORT also tells how many
- * entries or bytes are wanted. No call keeps anything, waits, allocates or stops the program; any number may be asked,
- * and calls may be made from several threads at once.
+ * entries or bytes are wanted. Two calls answer otherwise: bd_walk_begin with the refusal alone, and bd_walk_next with
+ * a row or "no more". No call keeps anything, waits, allocates or stops the program; where a walk stands is kept in the
+ * caller's own walker. Any number and any bytes may be asked, and calls may be made from several threads at once.
  *
  * A day is a Julian Day Number. A Hebrew day has the number of the civil day that holds its daylight; it begins the
  * evening before, for the calendar's arithmetic at 18:00. Civil years are signed and there is a year 0: 3761 BCE is
@@ -15,11 +16,16 @@
  *     the civil day, from sunset on for the day after, that number plus 1. A panel that changes the day at midnight is
  *     hours late, with putting the bank on the load and with taking it off.
  *   - The wing. 1 and 2 are both good: a panel that names the other wing is told of the other wing's rest days.
- *   - A pointer must be valid and, if it is to numbers, aligned for uint64_t; bytes may begin anywhere. Where the length
- *     given with it is 0 it may be NULL: it is proved that no entry and no byte is touched then, and seen in the
- *     archive's code and tested, for the lists of every year and for sheets, that no more is asked of the pointer.
- *   - A length must be true: at least so many numbers, or bytes, stand at the pointer, and nobody else uses them during
- *     the call.
+ *   - A pointer must be valid and, if it is to numbers or to a walker, aligned for uint64_t; bytes may begin anywhere.
+ *     Where the length given with it is 0 it may be NULL: it is proved that no entry and no byte is touched then, and
+ *     seen in the archive's code and tested, for the lists of every year and for sheets, written and read, that no more
+ *     is asked of the pointer.
+ *   - A length must be true: at least so many numbers, or bytes, stand at the pointer. During the call nobody else uses
+ *     what it writes, a walker too, and nobody changes a sheet that it reads. Several calls may read one sheet at once.
+ *   - A walker goes with the sheet that it was begun on. One that bd_walk_begin did not make, or that is given other
+ *     bytes, is safe and its walk ends, but its rows are then those of whatever bytes it is given.
+ *   - A sheet that is read is held to the layout and not to the calendar: one that is accepted may be the other wing's,
+ *     or an old one, or have any numbers in its rows.
  *   - Every number is passed as 64 bits. These declarations see to that. A number that was cut before it came here
  *     arrives as another number, and may be a good one.
  *   - Look at the refusal first. Of all refusals only BD_NO_STRETCH means that the bank is off the load; after any
@@ -38,20 +44,21 @@
  * was built with an earlier minor version builds and is answered as it was. A minor version adds.
  */
 #define BD_VERSION_MAJOR 4
-#define BD_VERSION_MINOR 1
-#define BD_VERSION "4.1"
+#define BD_VERSION_MINOR 2
+#define BD_VERSION "4.2"
 
 #ifdef __cplusplus
 extern "C" {
 #endif
 
 /*
- * Why there is no answer. Where several apply, BD_BAD_WING comes before all others, then BD_BAD_YEAR_COUNT, and else
- * the smallest is given: each call below has its refusals in that order.
+ * Why there is no answer. Where several apply, BD_BAD_WING comes before all others, then BD_BAD_YEAR_COUNT for a sheet
+ * that is written, and for one that is read BD_SHEET_TOO_SHORT, BD_BAD_SHEET_YEARS and BD_BAD_SHEET_LAYOUT; else the
+ * smallest is given. Each call below has its refusals in that order.
  */
 enum bd_refusal {
     BD_DONE = 0,                    /* there is an answer */
-    BD_BAD_YEAR = 1,                /* Hebrew year outside 1..9999 (1..10,000 for bd_new_year and bd_new_year_rhodes) */
+    BD_BAD_YEAR = 1,                /* Hebrew year outside 1..9999 (a New Year's: 1..10,000), or not on the sheet */
     BD_BAD_MONTH = 2,               /* month code outside 1..13, or BD_ADAR_I in a common year */
     BD_BAD_DAY = 3,                 /* day outside its Hebrew month */
     BD_DAY_OUT_OF_RANGE = 4,        /* day number outside BD_FIRST_DAY..BD_LAST_DAY */
@@ -62,7 +69,10 @@ enum bd_refusal {
     BD_NO_STRETCH = 9,              /* no stretch in range ends on or after the day */
     BD_BUFFER_TOO_SHORT = 10,       /* the lent buffer has no room for the list or the sheet */
     BD_BAD_YEAR_COUNT = 11,         /* years of a sheet not 1..100 */
-    BD_BAD_WING = 15                /* wing neither 1 nor 2 */
+    BD_BAD_WING = 15,               /* wing or sheet named neither 1 nor 2 */
+    BD_SHEET_TOO_SHORT = 16,        /* a loaded sheet of fewer than 16 bytes */
+    BD_BAD_SHEET_YEARS = 17,        /* its count of years not 1..100, or its first or last year outside 1..9999 */
+    BD_BAD_SHEET_LAYOUT = 18        /* its offsets, counts of rows and length do not fit each other */
 };
 
 /* The range of day numbers: 1 Tishri 1 and 29 Elul 9999. */
@@ -357,6 +367,62 @@ bd_list_answer bd_stretches(uint64_t wing, uint64_t year, uint64_t *out, size_t 
  * its own, 960 bytes, on the stack, for a year's stretches at a time.
  */
 bd_list_answer bd_sheet_write(uint64_t wing, uint64_t first_year, uint64_t years, uint8_t *out, size_t length);
+
+/*
+ * A loaded sheet is bytes in the caller's memory, of which nothing is known. So every call that can refuse it looks at
+ * header, index and length first. What bd_sheet_write wrote, with the length that it told, is accepted; refused is, in
+ * this order,
+ *
+ *     16  a sheet of fewer than 16 bytes
+ *     17  a count of years that is not 1..100; a first or a last year, first + count - 1, outside 1..9999
+ *     18  an offset of the index that is not 16, or of the rows that is not 16 + 8 x years; a count of rows that is not
+ *         the sum of the index's counts; an offset in the index that is not the rows' offset plus 6 for each row of the
+ *         years before; a length that is not 16 + 8 x years + 6 x rows
+ *
+ * Neither the rows nor the lengths of the years are compared with the calendar.
+ */
+
+/* Where a year's rows stand, 6 bytes each: inside the caller's sheet, of which nothing is copied. */
+typedef struct bd_rows_answer {
+    uint64_t refusal;
+    uint64_t offset; /* the year's first row begins at sheet + offset */
+    uint64_t length; /* how many bytes its rows have */
+} bd_rows_answer;
+
+/* The rows of a year of a sheet. Refusals: 16, 17, 18, 1 if the year is not on the sheet. */
+bd_rows_answer bd_sheet_rows(const uint8_t *sheet, size_t length, uint64_t year);
+
+/*
+ * The same of the one of two sheets that is named, 1 or 2, for a room that serves both wings. Refusals: 15 if neither
+ * is named, then 16, 17, 18, 1 for the sheet named. The other sheet is not looked at, and may be NULL and 0.
+ */
+bd_rows_answer bd_sheets_rows(uint64_t named, const uint8_t *sheet_1, size_t length_1, const uint8_t *sheet_2,
+                              size_t length_2, uint64_t year);
+
+/*
+ * A walk hands out the rows of a sheet, one after another. The caller holds the walker and gives the sheet each time:
+ *
+ *     bd_walker walker;
+ *     bd_row row;
+ *     if (bd_walk_begin(&walker, sheet, length) != BD_DONE) return;  // or say why
+ *     while ((row = bd_walk_next(&walker, sheet, length)).more) show(row.first, row.length, row.wing);
+ */
+typedef struct bd_walker {
+    uint64_t row; /* the number of the row that comes next, counted from 0; on a refused sheet UINT64_MAX */
+} bd_walker;
+
+typedef struct bd_row {
+    uint64_t more; /* 1: here is a row; 0: no more, and all zeros */
+    uint64_t first; /* day number of the stretch's first day */
+    uint64_t length; /* of the stretch, in days */
+    uint64_t wing;
+} bd_row;
+
+/* Begins a walk with the sheet's first row. Refusals, told as the number alone: 16, 17, 18; the walk has then ended. */
+uint64_t bd_walk_begin(bd_walker *walker, const uint8_t *sheet, size_t length);
+
+/* The next row, after which the walker stands one row further; behind the last row "no more", for ever. No refusals. */
+bd_row bd_walk_next(bd_walker *walker, const uint8_t *sheet, size_t length);
 
 #ifdef __cplusplus
 }

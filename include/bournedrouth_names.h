@@ -48,7 +48,7 @@ static inline const char *bd_refusal_name(uint64_t refusal)
 {
     static const char *const names[] = {
         "done",
-        "the Hebrew year is outside 1 to 9999",
+        "the Hebrew year is outside 1 to 9999, or not on the sheet",
         "the Hebrew year has no such month",
         "the Hebrew month has no such day",
         "the day is before 1 Tishri 1 or after 29 Elul 9999",
@@ -60,7 +60,10 @@ static inline const char *bd_refusal_name(uint64_t refusal)
         "the buffer is too short for the list or the sheet",
         "the count of years is outside 1 to 100",
         "?", "?", "?", /* 12 to 14 are no refusals */
-        "the wing is neither 1 nor 2",
+        "the wing or sheet named is neither 1 nor 2",
+        "the sheet has fewer than 16 bytes",
+        "the sheet's years are not 1 to 100 of the years 1 to 9999",
+        "the sheet's header, index and size do not fit each other",
     };
     return bd_name_at(names, sizeof names / sizeof *names, refusal);
 }

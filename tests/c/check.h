@@ -34,5 +34,8 @@ void rest_days(void);
 void every_year(void);
 void every_day(void);
 void sheets(void);
+void loaded(void);
+void no_sheets(void);
+void changed(void);
 
 #endif

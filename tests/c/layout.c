@@ -4,7 +4,8 @@
  * The calling convention of x86-64 gives a struct of more than two words back through a pointer that comes before the
  * arguments. So the archive can be called with a plain array of words for the answer, with guard words around it, whatever
  * the header says: the words that it writes are the struct's true size and order. A struct of two words comes back in two
- * registers, and its words are those that the header's own call gives.
+ * registers, and its words are those that the header's own call gives. A walker is the caller's own, and the archive is
+ * given a word for it with guard words around it.
  *
  * Each question is one whose numbers all differ, so that exchanged fields show.
  */
@@ -27,7 +28,7 @@ static void placed(const uint64_t *answer)
     same("place of the answer", (uint64_t)(answer - room), AROUND);
 }
 
-/* The archive wrote `want` and no word more, and a struct of the header has as many. */
+/* The archive wrote `want` into the room and no word more, and a struct of the header has as many. */
 static void written(const char *name, size_t header_size, const uint64_t *want, size_t words)
 {
     asking("the words of %s", name);
@@ -102,6 +103,40 @@ static void large_structs(void)
     same("year of a Julian date", bd_day_to_julian(BD_FIRST_DAY).year < 0, 1);
 }
 
+/* On the guest wing's sheet of 5774, which has 58 rows, and 5775. */
+static void sheet_structs(void)
+{
+    uint8_t sheet[686];
+    uint64_t walker = 58;
+
+    asking("bd_sheet_write(BD_GUEST_WING, 5774, 2, sheet, %zu)", sizeof sheet);
+    same("count", bd_sheet_write(BD_GUEST_WING, 5774, 2, sheet, sizeof sheet).count, sizeof sheet);
+
+    placed(raw_sheet_rows(fresh(), sheet, sizeof sheet, 5775));
+    WORDS(bd_rows_answer, 0, 380, 306);
+    placed(raw_sheets_rows(fresh(), 2, NULL, 0, sheet, sizeof sheet, 5775));
+    WORDS(bd_rows_answer, 0, 380, 306);
+    placed(raw_sheets_rows(fresh(), 1, sheet, sizeof sheet, NULL, 0, 5776));
+    WORDS(bd_rows_answer, 1, 0, 0);
+    AT(bd_rows_answer, offset, 1), AT(bd_rows_answer, length, 2);
+
+    placed(raw_walk_next(fresh(), &walker, sheet, sizeof sheet));
+    WORDS(bd_row, 1, 2456926, 3, 2);
+    placed(raw_walk_next(fresh(), &walker, sheet, 0));
+    WORDS(bd_row, 0, 0, 0, 0);
+    AT(bd_row, more, 0), AT(bd_row, first, 1), AT(bd_row, length, 2), AT(bd_row, wing, 3);
+    same("row of the walker", walker, 59);
+
+    uint64_t answer[4];
+    same("refusal of a sheet", raw_walk_begin(fresh(), sheet, sizeof sheet), 0);
+    WORDS(bd_walker, 0);
+    raw_walk_next(answer, room + AROUND, sheet, sizeof sheet);
+    WORDS(bd_walker, 1);
+    same("refusal of 15 bytes", raw_walk_begin(fresh(), sheet, 15), 16);
+    WORDS(bd_walker, UINT64_MAX);
+    AT(bd_walker, row, 0);
+}
+
 /* The header's own call. */
 #define PAIR(type, field, call, number) \
     do { \
@@ -117,9 +152,10 @@ void layout(void)
 {
     begin("sizes and offsets");
     large_structs();
+    sheet_structs();
     AT(bd_civil_date, refusal, 0), AT(bd_molad_answer, refusal, 0), AT(bd_notice_answer, refusal, 0);
     AT(bd_new_year_answer, refusal, 0), AT(bd_year_answer, refusal, 0), AT(bd_kind_answer, refusal, 0);
-    AT(bd_hebrew_date, refusal, 0), AT(bd_stretch_answer, refusal, 0);
+    AT(bd_hebrew_date, refusal, 0), AT(bd_stretch_answer, refusal, 0), AT(bd_rows_answer, refusal, 0);
 
     uint64_t entries[BD_REST_DAYS_ROOM];
     PAIR(bd_weekday_answer, weekday, bd_weekday(2452171), 3);

@@ -68,5 +68,8 @@ int main(void)
     every_year();
     every_day();
     sheets();
+    loaded();
+    no_sheets();
+    changed();
     return 0;
 }

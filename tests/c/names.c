@@ -48,7 +48,7 @@ static void refusals(void)
 {
     static const char *const want[] = {
         [BD_DONE] = "done",
-        [BD_BAD_YEAR] = "the Hebrew year is outside 1 to 9999",
+        [BD_BAD_YEAR] = "the Hebrew year is outside 1 to 9999, or not on the sheet",
         [BD_BAD_MONTH] = "the Hebrew year has no such month",
         [BD_BAD_DAY] = "the Hebrew month has no such day",
         [BD_DAY_OUT_OF_RANGE] = "the day is before 1 Tishri 1 or after 29 Elul 9999",
@@ -59,10 +59,13 @@ static void refusals(void)
         [BD_NO_STRETCH] = "no stretch of rest days is left in the calendar's range",
         [BD_BUFFER_TOO_SHORT] = "the buffer is too short for the list or the sheet",
         [BD_BAD_YEAR_COUNT] = "the count of years is outside 1 to 100",
-        [BD_BAD_WING] = "the wing is neither 1 nor 2",
+        [BD_BAD_WING] = "the wing or sheet named is neither 1 nor 2",
+        [BD_SHEET_TOO_SHORT] = "the sheet has fewer than 16 bytes",
+        [BD_BAD_SHEET_YEARS] = "the sheet's years are not 1 to 100 of the years 1 to 9999",
+        [BD_BAD_SHEET_LAYOUT] = "the sheet's header, index and size do not fit each other",
     };
     asking("the refusals");
-    same("count", COUNT(want), 16);
+    same("count", COUNT(want), 19);
     for (uint64_t refusal = 0; refusal < COUNT(want); ++refusal) /* 12 to 14 have no name */
         same_text("name", bd_refusal_name(refusal), want[refusal] != NULL ? want[refusal] : "?");
     same_text("no name", bd_refusal_name(COUNT(want)), "?");

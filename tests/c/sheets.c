@@ -4,6 +4,7 @@
  */
 #include "check.h"
 
+#include "bytes.h"
 #include "walk.h"
 
 /* The rows of all years before one, by wing. */
@@ -32,12 +33,8 @@ static uint64_t size(uint64_t wing, uint64_t first_year, uint64_t years)
 static uint8_t sheet[BD_SHEET_ROOM];
 static size_t written;
 
-/* Puts a number behind what is written, its lowest byte first. */
-static void put(uint64_t number, int bytes)
-{
-    for (; bytes > 0; --bytes, number /= 256) sheet[written++] = (uint8_t)(number % 256);
-    same("what its bytes do not hold of a number", number, 0);
-}
+/* Puts a number behind what is written. */
+static void put(uint64_t number, int bytes) { written = (size_t)(put_number(sheet + written, number, bytes) - sheet); }
 
 static void write_sheet(uint64_t wing, uint64_t first_year, uint64_t years)
 {

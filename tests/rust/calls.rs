@@ -58,6 +58,26 @@ struct Stretch {
     days_left: i64,
 }
 
+#[repr(C)]
+struct Rows {
+    refusal: u64,
+    offset: u64,
+    length: u64,
+}
+
+#[repr(C)]
+struct Walker {
+    row: u64,
+}
+
+#[repr(C)]
+struct Row {
+    more: u64,
+    first: u64,
+    length: u64,
+    wing: u64,
+}
+
 extern "C" {
     fn bd_new_year(year: u64) -> NewYear;
     fn bd_new_year_rhodes(year: u64) -> NewYear;
@@ -69,6 +89,17 @@ extern "C" {
     fn bd_stretch(wing: u64, day: u64) -> Stretch;
     fn bd_stretches(wing: u64, year: u64, out: *mut u64, length: usize) -> Pair;
     fn bd_sheet_write(wing: u64, first_year: u64, years: u64, out: *mut u8, length: usize) -> Pair;
+    fn bd_sheet_rows(sheet: *const u8, length: usize, year: u64) -> Rows;
+    fn bd_sheets_rows(
+        named: u64,
+        sheet_1: *const u8,
+        length_1: usize,
+        sheet_2: *const u8,
+        length_2: usize,
+        year: u64,
+    ) -> Rows;
+    fn bd_walk_begin(walker: *mut Walker, sheet: *const u8, length: usize) -> u64;
+    fn bd_walk_next(walker: *mut Walker, sheet: *const u8, length: usize) -> Row;
 }
 
 const HOUR: u64 = 1080;
@@ -271,8 +302,8 @@ fn stretches(wing: u64, year: u64, new_year: u64, rest: &[(u64, u64)]) -> Vec<(u
     runs
 }
 
-/// A wing's sheet, byte by byte, of years that are told as length and stretches; returns how many bytes it has.
-fn sheet(wing: u64, first_year: u64, years: &[(u64, Vec<(u64, u64)>)]) -> usize {
+/// A wing's sheet, byte by byte, of years that are told as length and stretches; returns its bytes.
+fn sheet(wing: u64, first_year: u64, years: &[(u64, Vec<(u64, u64)>)]) -> Vec<u8> {
     let count = years.len() as u64;
     let rows = years.iter().map(|(_, runs)| runs.len() as u64).sum();
     let mut offset = 16 + 8 * count;
@@ -296,7 +327,92 @@ fn sheet(wing: u64, first_year: u64, years: &[(u64, Vec<(u64, u64)>)]) -> usize 
     assert_eq!((got.refusal, got.number), (0, want.len() as u64), "{name}");
     assert_eq!(out[..want.len()], want, "{name}");
     assert!(out[want.len()..].iter().all(|&byte| byte == u8::MAX), "{name}: a byte beyond it");
-    want.len()
+    want
+}
+
+/// The refusal of a sheet's rows of a year, and where they stand.
+fn rows(sheet: &[u8], year: u64) -> (u64, u64, u64) {
+    let got = unsafe { bd_sheet_rows(sheet.as_ptr(), sheet.len(), year) };
+    (got.refusal, got.offset, got.length)
+}
+
+/// The same of two sheets.
+fn named_rows(named: u64, sheets: [&[u8]; 2], year: u64) -> (u64, u64, u64) {
+    let [one, two] = sheets;
+    let got = unsafe { bd_sheets_rows(named, one.as_ptr(), one.len(), two.as_ptr(), two.len(), year) };
+    (got.refusal, got.offset, got.length)
+}
+
+/// The walker's next row: its stretch and its wing, if there is one.
+fn next(walker: &mut Walker, sheet: &[u8]) -> Option<((u64, u64), u64)> {
+    let got = unsafe { bd_walk_next(walker, sheet.as_ptr(), sheet.len()) };
+    match (got.more, (got.first, got.length), got.wing) {
+        (1, stretch, wing) => Some((stretch, wing)),
+        (more, stretch, wing) => {
+            assert_eq!((more, stretch, wing), (0, (0, 0), 0), "no more");
+            None
+        }
+    }
+}
+
+/// A wing's sheet read back by year and row by row, against the stretches that it was written from; returns how many rows
+/// it has.
+fn read_back(wing: u64, first_year: u64, years: &[(u64, Vec<(u64, u64)>)], sheet: &[u8]) -> u64 {
+    let (mut offset, mut count) = (16 + 8 * years.len() as u64, 0);
+    let mut walker = Walker { row: u64::MAX };
+    assert_eq!(unsafe { bd_walk_begin(&mut walker, sheet.as_ptr(), sheet.len()) }, 0, "a walk from {first_year}");
+    for (year, (_, runs)) in (first_year..).zip(years) {
+        let length = 6 * runs.len() as u64;
+        assert_eq!(rows(sheet, year), (0, offset, length), "rows of {year}, wing {wing}");
+        assert_eq!(named_rows(2, [&[], sheet], year), (0, offset, length), "rows of {year} of sheet 2");
+        for &run in runs {
+            assert_eq!(next(&mut walker, sheet), Some((run, wing)), "a row of {year}, wing {wing}");
+        }
+        offset += length;
+        count += runs.len() as u64;
+    }
+    assert_eq!(offset, sheet.len() as u64, "the end of the rows");
+    for _ in 0..3 {
+        assert_eq!(next(&mut walker, sheet), None, "behind the last row");
+        assert_eq!(walker.row, count, "behind the last row");
+    }
+    for year in [0, first_year - 1, first_year + years.len() as u64, 1 << 32 | first_year, u64::MAX] {
+        assert_eq!(rows(sheet, year), (1, 0, 0), "rows of {year}");
+    }
+    count
+}
+
+/// Bytes that are no sheet, and a sheet that is not named.
+fn refused_sheets(sheet: &[u8], year: u64) {
+    let with = |place: usize, byte: u8| {
+        let mut bytes = sheet.to_vec();
+        bytes[place] = byte;
+        bytes
+    };
+    let longer = [sheet, &[0; 6]].concat();
+    let (no_years, other_rows, other_index) = (with(0, 0), with(4, !sheet[4]), with(8, 0));
+    let cases: [(&[u8], u64); 9] = [
+        (&[], 16),
+        (&sheet[..15], 16),
+        (&no_years[..16], 17),
+        (&no_years, 17),
+        (&sheet[..16], 18),
+        (&sheet[..sheet.len() - 1], 18),
+        (&longer, 18),
+        (&other_rows, 18),
+        (&other_index, 18),
+    ];
+    for (bytes, refusal) in cases {
+        assert_eq!(rows(bytes, year), (refusal, 0, 0), "{} bytes", bytes.len());
+        assert_eq!(rows(bytes, 0), (refusal, 0, 0), "{} bytes", bytes.len());
+        assert_eq!(named_rows(1, [bytes, sheet], year), (refusal, 0, 0), "{} bytes", bytes.len());
+        assert_eq!(named_rows(2, [bytes, sheet], year).0, 0, "beside {} bytes", bytes.len());
+        assert_eq!(named_rows(3, [bytes, sheet], year), (15, 0, 0), "neither of two");
+        let mut walker = Walker { row: 0 };
+        let got = unsafe { bd_walk_begin(&mut walker, bytes.as_ptr(), bytes.len()) };
+        assert_eq!((got, walker.row), (refusal, u64::MAX), "a walk on {} bytes", bytes.len());
+        assert_eq!(next(&mut walker, bytes), None, "a walk on {} bytes", bytes.len());
+    }
 }
 
 /// A bad wing is refused before a good year or day, and before a bad one.
@@ -331,9 +447,14 @@ fn main() {
     }
     bad_wings();
     println!("Rust calls: Hebrew dates, months and both wings' stretches: {days} days");
-    let mut bytes = 0;
+    let (mut bytes, mut read) = (0, 0);
     for (wing, told) in (1u64..).zip(&told) {
-        bytes += sheet(wing, 5787, &told[5786..][..20]) + sheet(wing, 9900, &told[9899..]);
+        for (first_year, years) in [(5787, &told[5786..][..20]), (9900, &told[9899..])] {
+            let sheet = sheet(wing, first_year, years);
+            bytes += sheet.len();
+            read += read_back(wing, first_year, years, &sheet);
+            refused_sheets(&sheet, first_year);
+        }
     }
-    println!("Rust calls: two sheets of each wing: {bytes} bytes");
+    println!("Rust calls: two sheets of each wing: {bytes} bytes, and {read} rows read back");
 }

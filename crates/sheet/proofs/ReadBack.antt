@@ -87,7 +87,7 @@ module _ (wing h years : ℕ) (w : IsWing wing) (some : 1 ≤ years) (at-most : 
       three-back bytes (16 + 8 * i) 4 2 2 (rowsOffset years + 6 * rowsBefore wing h i) (rowsIn wing (h + i)) (yearLength (h + i)) (entry-held i p)
       (omega (arith, few-before i (omega arith))) (omega (arith, rows-few wing (h + i) y)) (omega (arith, length-in (h + i) (y .0) (omega arith) .long))
 
-  pub before-told : (n : ℕ) → n ≤ years → rowsToldBefore bytes n ≡ rowsBefore wing h n
+  before-told : (n : ℕ) → n ≤ years → rowsToldBefore bytes n ≡ rowsBefore wing h n
   unfolding rowsToldBefore rowsBefore
   before-told n p = total-alike (rowsTold bytes) (λ i. rowsIn wing (h + i)) n (λ i q. entry-told i (omega arith) .1 .0)
 
