@@ -39,8 +39,8 @@ entryPlaced bytes years i = eqb (offsetTold bytes i) (rowsOffset years + 6 * row
 unfoldable pub indexPlaced : List ℕ → ℕ → Bool
 indexPlaced bytes years = every 0 years (entryPlaced bytes years)
 
--- The header's offsets are those of a sheet; its rows are the sum of the index's row counts; so is each index offset; the
--- size is 16 + 8 × years + 6 × rows.
+-- The header's offsets are those of a sheet; the size is 16 + 8 × years + 6 × rows; each index offset is as it must be; and
+-- the header's rows are the sum of the index's row counts.
 unfoldable pub placed : List ℕ → Bool
 placed bytes =
     eqb (indexTold bytes) indexOffset
