@@ -3,6 +3,7 @@
 ghost use Prim.Native.Nat.{_≤_};
 use show::byte;
 use show::end;
+use show::named;
 use show::number;
 use show::plain;
 use show::text;
@@ -47,11 +48,6 @@ fn bytes(sheet: &[u8], at: usize, n: usize)
         i += 1;
     }
     text(b" -> ");
-}
-
-fn named(words: &[u8], n: u64) {
-    text(words);
-    number(n);
 }
 
 fn two_bytes(sheet: &[u8], at: usize, words: &[u8])

@@ -26,6 +26,12 @@ pub fn number(n: u64) {
     plain(n);
 }
 
+// A number after words and one blank.
+pub fn named(words: &[u8], n: u64) {
+    text(words);
+    number(n);
+}
+
 // A number of a civil date or of the clock, which has two figures.
 pub fn two_figures(n: u64) {
     if n < 10 {

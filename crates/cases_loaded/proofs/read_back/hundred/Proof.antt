@@ -1,0 +1,23 @@
+use borrow.Author.Needs.{needs}
+use mathlib.Core.Path.{sym}
+use lib.Seq.{length-take-le}
+use Rattle.cases_loaded.proofs.read_back.hundred.Statement.{statement}
+use Rattle.cases_loaded.proofs.read_back.hundred.Tie as tie
+
+pub hundred-spec : {M : Type 1} → statement M
+hundred-spec =
+    tie.close
+    (tie.spec
+    (search needs)
+    (λ c. sym (length-take-le _ _ (c .before .before .pre .1 .1)))
+    (search needs)
+    (search needs)
+    (search needs)
+    (search needs)
+    (search needs)
+    (search needs)
+    (search needs)
+    (search needs)
+    (search needs)
+    (search needs)
+    (search needs))

@@ -1,0 +1,22 @@
+use borrow.Author.Needs.{needs}
+use mathlib.Core.Path.{sym}
+use lib.Seq.{length-take-le}
+use Rattle.cases_loaded.proofs.read_back.small.Statement.{statement}
+use Rattle.cases_loaded.proofs.read_back.small.Tie as tie
+
+pub small-spec : {M : Type 1} → statement M
+small-spec =
+    tie.close
+    (tie.spec
+    (search needs)
+    (λ c. sym (length-take-le _ _ (c .before .before .pre .1 .1 .1)))
+    (search needs)
+    (search needs)
+    (search needs)
+    (search needs)
+    (search needs)
+    (search needs)
+    (search needs)
+    (search needs)
+    (search needs)
+    (search needs))

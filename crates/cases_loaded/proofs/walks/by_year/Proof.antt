@@ -1,0 +1,24 @@
+use borrow.Author.Needs.{needs}
+use Prim.Native.Nat.{_≤_, _-_}
+use Rattle.cases_loaded.proofs.walks.by_year.Statement.{statement}
+use Rattle.cases_loaded.proofs.walks.by_year.Tie as tie
+
+abbrev Inv-loop : tie.InvT-loop
+Inv-loop sheet first-year years sum₀ i₀ sum i = i ≤ years
+
+abbrev μ-loop : tie.MeasureT-loop
+μ-loop sheet first-year years sum₀ i₀ sum i = years - i
+
+pub by-year-spec : {M : Type 1} → statement M
+by-year-spec =
+    tie.close
+    (tie.spec
+    Inv-loop
+    μ-loop
+    (search needs)
+    (search needs)
+    (search needs)
+    (search needs)
+    (search needs)
+    (search needs)
+    (search needs))
