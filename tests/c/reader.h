@@ -1,6 +1,6 @@
 /*
  * A reader of loaded sheets of the tests' own, by document 02, and the archive's answers held against it. It shares the
- * layout with the archive and nothing else: bytes are taken for a sheet if its header and index, written anew from the
+ * layout with the archive and nothing else: bytes are accepted if its header and index, written anew from the
  * years and the counts that stand there, are the bytes that stand there. A year's rows are found by counting those before
  * it.
  */

@@ -1,6 +1,6 @@
 -- What a computed test says of a run of numbers, of a table or of both truth values holds at each place.
 use mathlib.Core.Path.{_≡_, refl, sym, _∙_}
-use mathlib.Core.Bool.{Bool, true, false, _&&_, _||_, cond, Bool·beq, false≢true}
+use mathlib.Core.Bool.{Bool, true, false, _&&_, _||_, cond, Bool·beq, and-true, and-assoc, false≢true}
 use mathlib.Core.List.{List, [], _∷_}
 use mathlib.Core.Logic.{by-cases}
 use Prim.Native.Nat.{ℕ, zero, suc, _+_, _-_, _≤_, _<_}
@@ -98,21 +98,13 @@ every-alike a (suc n) p q f =
     rw (f a (omega arith) (omega arith), every-alike (suc a) n p q (λ k l u. f k (omega arith) (omega arith)))
 
 -- One number more.
-and-true : (a : Bool) → a && true ≡ a
-and-true true = refl
-and-true false = refl
-
-and-third : (a b c : Bool) → a && (b && c) ≡ (a && b) && c
-and-third true b c = refl
-and-third false b c = refl
-
 pub every-more : (a n : ℕ) (p : ℕ → Bool) → every a (n + 1) p ≡ every a n p && p (a + n)
 unfolding every
 every-more a zero p = let e : a + 0 ≡ a = omega arith in rw (e, and-true (p a))
 every-more a (suc n) p =
     let m : suc n + 1 ≡ suc (n + 1) = omega arith in
     let e : a + suc n ≡ suc a + n = omega arith in
-    rw (m, e, every-more (suc a) n p) (and-third (p a) (every (suc a) n p) (p (suc a + n)))
+    rw (m, e, every-more (suc a) n p) (sym (and-assoc (p a) (every (suc a) n p) (p (suc a + n))))
 
 -- A test that compares two functions.
 pub equal : (a n : ℕ) (f g : ℕ → ℕ) → every a n (λ k. eqb (f k) (g k)) ≡ true → (k : ℕ) → a ≤ k → k < a + n → f k ≡ g k

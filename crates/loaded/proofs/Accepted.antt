@@ -1,10 +1,10 @@
--- What it means that bytes are taken for a sheet.
-use mathlib.Core.Path.{_≡_, refl, sym}
+-- What it means that bytes are accepted for a sheet.
+use mathlib.Core.Path.{_≡_, refl}
 use mathlib.Core.Bool.{Bool, true, false, not, cond, false≢true}
 use mathlib.Core.List.{List}
 use Prim.Native.Nat.{ℕ, _+_, _*_, _-_, _≤_, _<_}
 use native.Mathlib.Omega.{arith}
-use borrow.Author.Tests.{eq-eqb, eqb-true, ltb-true, ltb-false}
+use borrow.Author.Tests.{eq-eqb, eqb-true, ltb-true, ltb-false, not-false}
 use lib.Dec.{eqb, ltb}
 use lib.ListN.{length}
 use Rattle.laws.specs.Promise.{Asked, Promised}
@@ -18,10 +18,6 @@ use Rattle.sheet.specs.Sheet.{mostYears}
 use Rattle.sheet.specs.Promises.{offsetTold, rowsTold, rowsToldBefore}
 use Rattle.loaded.specs.Check.{yearsTold, firstTold, countTold, indexTold, rowsAtTold, strangeYears, entryPlaced, indexPlaced, placed, ofLoaded, loadedRefusal}
 use Rattle.loaded.specs.Promises.{WritersYears, Placed, askedOfLoaded, PromisedRefusal}
-
-not-false : (b : Bool) → not b ≡ false → b ≡ true
-not-false true e = refl
-not-false false e = sym e
 
 -- One number tells what is given.
 by-number :
@@ -54,13 +50,13 @@ module _ (bytes : List ℕ) where
       let years = yearsTold bytes in
       let second = and-right (eqb (indexTold bytes) 16) _ e in
       let third = and-right (eqb (rowsAtTold bytes) (rowsOffset years)) _ second in
-      let fourth = and-right (eqb (length bytes) (rowsOffset years + 6 * countTold bytes)) _ third in
+      let fourth = and-right (eqb (countTold bytes) (rowsToldBefore bytes years)) _ third in
       record {
         index-offset = eqb-true _ _ (and-left _ _ e);
         rows-offset = eqb-true _ _ (and-left _ _ second);
-        rows-counted = eqb-true _ _ (and-right (every 0 years (entryPlaced bytes years)) _ fourth);
+        rows-counted = eqb-true _ _ (and-left _ _ third);
         offsets = λ i p. equal 0 years (offsetTold bytes) (λ i. rowsOffset years + 6 * rowsToldBefore bytes i) (and-left _ _ fourth) i (omega arith) (omega arith);
-        size = eqb-true _ _ (and-left _ _ third);
+        size = eqb-true _ _ (and-right (every 0 years (entryPlaced bytes years)) _ fourth);
       }
 
   fit-all : Placed bytes → placed bytes ≡ true
@@ -70,9 +66,9 @@ module _ (bytes : List ℕ) where
       rw (
         eq-eqb (indexTold bytes) 16 (p .index-offset),
         eq-eqb (rowsAtTold bytes) (rowsOffset years) (p .rows-offset),
-        eq-eqb (length bytes) (rowsOffset years + 6 * countTold bytes) (p .size),
-        passed 0 years (entryPlaced bytes years) (λ i l u. eq-eqb (offsetTold bytes i) (rowsOffset years + 6 * rowsToldBefore bytes i) (p .offsets i (omega arith))),
         eq-eqb (countTold bytes) (rowsToldBefore bytes years) (p .rows-counted),
+        passed 0 years (entryPlaced bytes years) (λ i l u. eq-eqb (offsetTold bytes i) (rowsOffset years + 6 * rowsToldBefore bytes i) (p .offsets i (omega arith))),
+        eq-eqb (length bytes) (rowsOffset years + 6 * countTold bytes) (p .size),
       )
 
   misplaced : Catches (not (placed bytes)) (Placed bytes)
@@ -94,7 +90,7 @@ module _ (bytes : List ℕ) where
   unfolding loadedRefusal
   refusal-promised = loaded-promised (λ n. n) 0 (λ n. refl) (λ n. tt) (λ _ _. answered refl tt)
 
-  -- Bytes that are taken for a sheet.
+  -- Bytes that are accepted.
   pub accepted : loadedRefusal bytes ≡ 0 → (16 ≤ length bytes) × (WritersYears bytes × Placed bytes)
   accepted z = let m = refusal-promised .done .0 z in (m .0, (m .1 .0, m .1 .1 .0))
 

@@ -15,8 +15,9 @@ use Rattle.sheet.specs.Promises.{offsetTold, rowsTold}
 use Rattle.loaded.specs.Check.{yearsTold, firstTold, loadedRefusal}
 use Rattle.loaded.specs.Rows.{noRows, offSheet, rowsAnswer, rowsOf, namedSheet, namedAnswer}
 use Rattle.loaded.specs.Promises.{EmptyPart, PromisedRows, PromisedNamed}
-use Rattle.loaded.specs.Walk.{stepAt, begunAt, begunOn, movedOn}
+use Rattle.loaded.specs.Walk.{rowGiven, stepAt, begunAt, begunOn, movedOn}
 use Rattle.loaded.specs.declared.years.RowsAnswer.{RowsAnswer}
+use Rattle.loaded.specs.declared.walk.Row.{Row}
 use Rattle.loaded.specs.declared.walk.Begun.{Begun}
 use Rattle.loaded.specs.declared.walk.Stepped.{Stepped}
 use Rattle.loaded.specs.declared.walk.Walker.{Walker}
@@ -77,7 +78,7 @@ names-second one two year = refl
 pub named-place : (one two : ℕ) → (namedSheet 1 one two ≡ one) × (namedSheet 2 one two ≡ two)
 named-place one two = (refl, refl)
 
--- One answer of each step.
+-- One answer of each, and one part.
 module _ (bytes : List ℕ) where
   pub refusal-one : (r s : ℕ) → r ≡ loadedRefusal bytes → s ≡ loadedRefusal bytes → r ≡ s
   refusal-one = one-result (loadedRefusal bytes)
@@ -87,6 +88,13 @@ module _ (bytes : List ℕ) where
 
   pub step-one : (k : ℕ) (r s : Stepped) → r ≡ stepAt bytes k → s ≡ stepAt bytes k → r ≡ s
   step-one k = one-result (stepAt bytes k)
+
+  pub given-one : (k : ℕ) (r s : Row) → r ≡ rowGiven bytes k → s ≡ rowGiven bytes k → r ≡ s
+  given-one k = one-result (rowGiven bytes k)
+
+  -- The bytes of a part.
+  pub part-one : (place : RowsAnswer) (r s : List ℕ) → r ≡ rowsOf bytes place → s ≡ rowsOf bytes place → r ≡ s
+  part-one place = one-result (rowsOf bytes place)
 
 -- One walker that is begun, and one that has moved on.
 pub begin-one : (sheet : RefT (List ℕ)) (r s : Walker) → r ≡ begunOn sheet → s ≡ begunOn sheet → r ≡ s

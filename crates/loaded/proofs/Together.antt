@@ -16,7 +16,7 @@ use Rattle.loaded.specs.Walk.{rowPlace, rowRead}
 use Rattle.loaded.specs.Promises.{rowNumbers, rowsInPart, yearPart, Together}
 use Rattle.loaded.proofs.Accepted.{accepted, rows-inside}
 use Rattle.loaded.proofs.Answers.{rows-of-sheet}
-use Rattle.loaded.proofs.Walks.{walk-of}
+use Rattle.loaded.proofs.Walks.{rows-handed-out}
 
 -- The rows in a part are those that stand there.
 part-rows :
@@ -67,4 +67,4 @@ module _ (bytes : List ℕ) (z : loadedRefusal bytes ≡ 0) where
       let c = accepted bytes z .1 .1 .rows-counted in
       joined-alike _ _ (yearsTold bytes) year-rows
       ∙ sym (joined-rows read (rowsTold bytes) (yearsTold bytes))
-      ∙ rw (← c) (joined-alike _ _ (countTold bytes) (λ k q. rw (walk-of bytes .rows z k q)))
+      ∙ rw (← c) (joined-alike _ _ (countTold bytes) (λ k q. rw (rows-handed-out bytes z k q)))

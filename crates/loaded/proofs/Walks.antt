@@ -1,6 +1,6 @@
 -- Which rows a sheet has, and what a walk through it hands out.
 use mathlib.Core.Path.{_≡_, refl, sym, _∙_}
-use mathlib.Core.Bool.{Bool, true, false, _&&_, false≢true}
+use mathlib.Core.Bool.{Bool, true, false, and-false, false≢true}
 use mathlib.Core.List.{List}
 use mathlib.Core.Logic.{by-cases}
 use Prim.Native.Nat.{ℕ, zero, suc, _+_, _-_, _≤_, _<_}
@@ -9,25 +9,12 @@ use native.Mathlib.Decide.{ℕ-discrete}
 use borrow.Author.Tests.{ltb-true, lt-ltb, le-ltb}
 use lib.Dec.{ltb}
 use lib.ListN.{length}
+use denote.Ref.{RefT, now}
 use Rattle.laws.proofs.Tests.{and-left, and-right}
 use Rattle.loaded.specs.Check.{countTold, loadedRefusal}
-use Rattle.loaded.specs.Walk.{rowPlace, hasRow, noMore, rowRead, rowGiven, rowAfter, noRow, begunAt}
-use Rattle.loaded.specs.Promises.{placeAfter, handedOut, WalkOf}
+use Rattle.loaded.specs.Walk.{rowPlace, hasRow, rowRead, rowGiven, rowAfter, endedRow, begunAt, begunOn}
+use Rattle.loaded.specs.Promises.{RowThere, NoMore, StepOf, rowAfterCalls, handedOut, afterCalls, WalkOf}
 use Rattle.loaded.proofs.Accepted.{where-accepted, where-refused, accepted}
-
-and-false : (a : Bool) → a && false ≡ false
-and-false true = refl
-and-false false = refl
-
-not-true : (a : Bool) → (¬ (a ≡ true)) → a ≡ false
-not-true true f = absurd (f refl)
-not-true false f = refl
-
--- A walker that can still go on has gone on.
-one-on : (bytes : List ℕ) (k n : ℕ) (b : Bool) → hasRow bytes k ≡ b → (hasRow bytes k ≡ true → n ≤ k) → hasRow bytes (rowAfter bytes k) ≡ true → suc n ≤ rowAfter bytes k
-unfolding rowAfter
-one-on bytes k n true e f h = rw e (omega (arith, f e))
-one-on bytes k n false e f h = absurd (false≢true (sym e ∙ (rw e at h)))
 
 module _ (bytes : List ℕ) (k : ℕ) where
   -- Its bytes are not there.
@@ -45,73 +32,102 @@ module _ (bytes : List ℕ) (k : ℕ) where
   unfolding hasRow
   counted p = rw (lt-ltb k (countTold bytes) p)
 
-  pub row-there : hasRow bytes k ≡ true → (k < countTold bytes) × (rowPlace bytes k + 5 < length bytes)
+  pub row-there : hasRow bytes k ≡ true → RowThere bytes k
   unfolding hasRow
-  row-there e = (ltb-true _ _ (and-left _ _ e), ltb-true _ _ (and-right (ltb k (countTold bytes)) _ e))
+  row-there e = (ltb-true _ _ (and-left _ _ e), omega (arith, ltb-true (rowPlace bytes k + 5) (length bytes) (and-right (ltb k (countTold bytes)) _ e)))
 
-  -- Where there is no such row a walker stays, for ever.
-  stays : hasRow bytes k ≡ false → (n : ℕ) → placeAfter bytes k n ≡ k
-  unfolding placeAfter rowAfter
-  stays e zero = refl
-  stays e (suc n) = rw (stays e n, e)
+  has : RowThere bytes k → hasRow bytes k ≡ true
+  has t = counted (t .0) ∙ lt-ltb (rowPlace bytes k + 5) (length bytes) (omega (arith, t .1))
 
-  pub ended-stays : hasRow bytes k ≡ false → (n : ℕ) → handedOut bytes k n ≡ noMore
-  unfolding rowGiven
-  ended-stays e n = rw (stays e n, e)
+  -- What is given, and where the walker then is, by whether there is such a row.
+  step-by : (b : Bool) → hasRow bytes k ≡ b → StepOf bytes k
+  unfolding rowGiven rowAfter
+  step-by true e = record { row = λ _. rw e ((refl, (refl, (refl, refl))), refl); none = λ u. absurd (u (row-there e)) }
+  step-by false e = record { row = λ t. absurd (false≢true (sym e ∙ has t)); none = λ _. rw e ((refl, (refl, (refl, refl))), refl) }
 
-  -- Until it has ended it goes a row on at each call.
-  goes-on : (n : ℕ) → hasRow bytes (placeAfter bytes k n) ≡ true → n ≤ placeAfter bytes k n
-  unfolding placeAfter
-  goes-on zero e = omega arith
-  goes-on (suc n) e = one-on bytes (placeAfter bytes k n) n (hasRow bytes (placeAfter bytes k n)) refl (goes-on n) e
+  pub step-of : StepOf bytes k
+  step-of = step-by (hasRow bytes k) refl
 
-  -- Calls after calls.
-  calls-after : (m n : ℕ) → placeAfter bytes k (m + n) ≡ placeAfter bytes (placeAfter bytes k m) n
-  unfolding placeAfter
-  calls-after m zero = let e : m + 0 ≡ m = omega arith in rw e
-  calls-after m (suc n) = let e : m + suc n ≡ suc (m + n) = omega arith in rw (e, calls-after m n)
+-- A walker that can still go on has gone on.
+one-on : (bytes : List ℕ) (k n : ℕ) (b : Bool) → hasRow bytes k ≡ b → (RowThere bytes k → n ≤ k) → RowThere bytes (rowAfter bytes k) → suc n ≤ rowAfter bytes k
+unfolding rowAfter
+one-on bytes k n true e f t = rw e (omega (arith, f (row-there bytes k e)))
+one-on bytes k n false e f t = absurd (false≢true (sym e ∙ has bytes k (rw e at t)))
 
 module _ (bytes : List ℕ) where
-  -- However it was made, a walker has ended when it was called as often as there are bytes.
-  pub any-ends : (k n : ℕ) → length bytes ≤ n → handedOut bytes k n ≡ noMore
-  unfolding rowGiven
-  any-ends k n p =
-      let at = placeAfter bytes k n in
-      rw (not-true (hasRow bytes at) (λ e. omega (arith, row-there bytes at e .1, goes-on bytes k n e)))
+  -- Where there is no such row a walker stays, for ever.
+  stays : (k : ℕ) → (¬ RowThere bytes k) → (n : ℕ) → rowAfterCalls bytes k n ≡ k
+  unfolding rowAfterCalls
+  stays k u zero = refl
+  stays k u (suc n) = rw (stays k u n) (step-of bytes k .none u .1)
+
+  module _ (k : ℕ) where
+    -- Until it has ended it goes a row on at each call.
+    goes-on : (n : ℕ) → RowThere bytes (rowAfterCalls bytes k n) → n ≤ rowAfterCalls bytes k n
+    unfolding rowAfterCalls
+    goes-on zero t = omega arith
+    goes-on (suc n) t = one-on bytes (rowAfterCalls bytes k n) n (hasRow bytes (rowAfterCalls bytes k n)) refl (goes-on n) t
+
+    -- Calls after calls.
+    calls-after : (m n : ℕ) → rowAfterCalls bytes k (m + n) ≡ rowAfterCalls bytes (rowAfterCalls bytes k m) n
+    unfolding rowAfterCalls
+    calls-after m zero = let e : m + 0 ≡ m = omega arith in rw e
+    calls-after m (suc n) = let e : m + suc n ≡ suc (m + n) = omega arith in rw (e, calls-after m n)
+
+    -- A walker that has said "no more" says it for ever, and stays where it is.
+    pub ended-stays : (m : ℕ) → handedOut bytes k m .more ≡ 0 → (n : ℕ) → NoMore (handedOut bytes k (m + n)) × (rowAfterCalls bytes k (m + n) ≡ rowAfterCalls bytes k m)
+    ended-stays m e n =
+        let at = rowAfterCalls bytes k m in
+        let u : ¬ RowThere bytes at = λ t. omega (arith, e, step-of bytes at .row t .0 .0) in
+        let c = calls-after m n ∙ stays at u n in
+        (rw c (step-of bytes at .none u .0), c)
+
+    -- However it was made, it has ended when it was called as often as there are bytes.
+    pub any-ends : (n : ℕ) → length bytes ≤ n → NoMore (handedOut bytes k n)
+    any-ends n p = step-of bytes (rowAfterCalls bytes k n) .none (λ t. omega (arith, t .1, goes-on n t)) .0
 
   -- A sheet has the rows that its header counts, and no other; a walk begins at the first.
   module _ (z : loadedRefusal bytes ≡ 0) where
-    has : (k : ℕ) → k < countTold bytes → hasRow bytes k ≡ true
-    has k p = counted bytes k p ∙ lt-ltb (rowPlace bytes k + 5) (length bytes) (omega (arith, accepted bytes z .1 .1 .size))
+    present : (n : ℕ) → n < countTold bytes → RowThere bytes n
+    present n p = (p, omega (arith, accepted bytes z .1 .1 .size))
 
     begins : begunAt bytes ≡ record { refusal = 0; row = 0 }
     unfolding begunAt
-    begins = where-accepted bytes (λ n. record { refusal = n; row = noRow }) _ z
+    begins = where-accepted bytes (λ n. record { refusal = n; row = endedRow }) _ z
 
-    at-row : (n : ℕ) → n ≤ countTold bytes → placeAfter bytes 0 n ≡ n
-    unfolding placeAfter rowAfter
+    at-row : (n : ℕ) → n ≤ countTold bytes → rowAfterCalls bytes 0 n ≡ n
+    unfolding rowAfterCalls
     at-row zero p = refl
-    at-row (suc n) p = rw (at-row n (omega arith), has n (omega arith)) (omega arith)
+    at-row (suc n) p = rw (at-row n (omega arith)) (omega (arith, step-of bytes n .row (present n (omega arith)) .1))
 
-    rows-handed-out : (n : ℕ) → n < countTold bytes → handedOut bytes (begunAt bytes .row) n ≡ rowRead bytes (rowPlace bytes n)
+    pub rows-handed-out : (n : ℕ) → n < countTold bytes → handedOut bytes (begunAt bytes .row) n ≡ rowRead bytes (rowPlace bytes n)
     unfolding rowGiven
-    rows-handed-out n p = rw (begins, at-row n (omega arith), has n p)
+    rows-handed-out n p = rw (begins, at-row n (omega arith), has bytes n (present n p))
 
-    none-left : (n : ℕ) → countTold bytes ≤ n → handedOut bytes (begunAt bytes .row) n ≡ noMore
+    none-left : (n : ℕ) → countTold bytes ≤ n → NoMore (handedOut bytes (begunAt bytes .row) n)
     none-left n p =
         let rows = countTold bytes in
+        let u : ¬ RowThere bytes rows = λ t. omega (arith, t .0) in
         let e : n ≡ rows + (n - rows) = omega arith in
-        rw (begins, e, calls-after bytes 0 rows (n - rows), at-row rows (omega arith)) (ended-stays bytes rows (not-counted bytes rows (omega arith)) (n - rows))
+        rw (begins, e, calls-after 0 rows (n - rows), at-row rows (omega arith), stays rows u (n - rows)) (step-of bytes rows .none u .0)
 
-  refused-begins : (¬ (loadedRefusal bytes ≡ 0)) → begunAt bytes ≡ record { refusal = loadedRefusal bytes; row = noRow }
+  refused-begins : (¬ (loadedRefusal bytes ≡ 0)) → begunAt bytes ≡ record { refusal = loadedRefusal bytes; row = endedRow }
   unfolding begunAt
-  refused-begins = where-refused bytes (λ n. record { refusal = n; row = noRow }) _
+  refused-begins = where-refused bytes (λ n. record { refusal = n; row = endedRow }) _
 
   pub walk-of : WalkOf bytes
   walk-of =
       record {
         refusal = by-cases (ℕ-discrete (loadedRefusal bytes) 0) (λ z. rw (begins z, z)) (λ u. rw (refused-begins u));
-        rows = rows-handed-out;
+        rows = λ z n p. rw (rows-handed-out z n p) (refl, (refl, (refl, refl)));
         no-more = none-left;
-        ended = λ u l n. rw (refused-begins u) (ended-stays bytes noRow (no-room bytes noRow (omega arith)) n);
+        ended = λ u l n. let w : ¬ RowThere bytes endedRow = λ t. omega (arith, t .1) in rw (refused-begins u, stays endedRow w n) (step-of bytes endedRow .none w .0);
       }
+
+-- The walker that `begin` makes keeps its sheet, and is after each call at the row at which the walk is.
+pub walker-after :
+    (sheet : RefT (List ℕ)) (n : ℕ) →
+    afterCalls (begunOn sheet) n ≡ record { sheet = sheet; row = rowAfterCalls (now sheet) (begunAt (now sheet) .row) n }
+unfolding afterCalls rowAfterCalls
+walker-after sheet zero = refl
+walker-after sheet (suc n) = rw (walker-after sheet n)

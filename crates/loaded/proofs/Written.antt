@@ -1,4 +1,4 @@
--- A sheet that was written is taken for a sheet, and yields what was written.
+-- A sheet that was written is accepted, and yields what was written.
 use mathlib.Core.Path.{_≡_, _∙_}
 use mathlib.Core.List.{List}
 use Prim.Native.Nat.{ℕ, _+_, _*_, _≤_, _<_}
@@ -21,7 +21,7 @@ use Rattle.loaded.specs.Walk.{rowPlace, rowRead}
 use Rattle.loaded.specs.Promises.{rowNumbers, rowsWalked, withWing, Yields}
 use Rattle.loaded.proofs.Accepted.{refusal-promised}
 use Rattle.loaded.proofs.Together.{year-place}
-use Rattle.loaded.proofs.Walks.{walk-of}
+use Rattle.loaded.proofs.Walks.{rows-handed-out}
 
 -- What header and index tell of a sheet is all that is asked of it.
 pub sheet-accepted :
@@ -85,14 +85,14 @@ module _ (wing h years : ℕ) (w : IsWing wing) (some : 1 ≤ years) (most : yea
   all-walked : rowsWalked bytes (rowsBefore wing h years) ≡ joined (λ i. withWing wing (stretchRows (tableOf wing) (h + i))) years
   unfolding rowsBefore
   all-walked =
-      joined-alike _ read (rowsBefore wing h years) (λ k q. rw (walk-of bytes .rows taken k (rw counted q)))
+      joined-alike _ read (rowsBefore wing h years) (λ k q. rw (rows-handed-out bytes taken k (rw counted q)))
       ∙ joined-rows read (λ i. rowsIn wing (h + i)) years
       ∙ joined-alike _ _ years year-read
 
   pub sheet-yields : Yields wing h years bytes
   sheet-yields = record { accepted = taken; by-year = year-part; counted = counted; walked = all-walked }
 
--- What `sheet_write` leaves in the lent bytes is taken for a sheet, and yields what was written.
+-- What `sheet_write` leaves in the lent bytes is accepted, and yields what was written.
 pub written-yields :
     (wing h years : ℕ) (buffer : List ℕ) → wingSheet wing h years buffer .refusal ≡ 0 →
     Yields wing h years (take (wingSheet wing h years buffer .count) (wingSheetBuffer wing h years buffer))

@@ -1,4 +1,4 @@
--- Whether bytes are taken for a sheet, by document 02. What stands in them is read as it is told; bytes that are not there
+-- Whether bytes are accepted for a sheet, by document 02. What stands in them is read as it is told; bytes that are not there
 -- count as 0, and are too few in any case.
 use mathlib.Core.Bool.{Bool, not, _&&_, _||_, cond}
 use mathlib.Core.List.{List}
@@ -39,17 +39,17 @@ entryPlaced bytes years i = eqb (offsetTold bytes i) (rowsOffset years + 6 * row
 unfoldable pub indexPlaced : List ℕ → ℕ → Bool
 indexPlaced bytes years = every 0 years (entryPlaced bytes years)
 
--- The header's offsets are those of a sheet; the size is 16 + 8 × years + 6 × rows; each index offset is as it must be; and
--- the header's rows are the sum of the index's row counts.
+-- The header's offsets are those of a sheet, its rows are the sum of the index's row counts, each index offset is as it must
+-- be, and the size is 16 + 8 × years + 6 × rows.
 unfoldable pub placed : List ℕ → Bool
 placed bytes =
     eqb (indexTold bytes) indexOffset
     && (eqb (rowsAtTold bytes) (rowsOffset (yearsTold bytes))
-    && (eqb (length bytes) (rowsOffset (yearsTold bytes) + 6 * countTold bytes)
+    && (eqb (countTold bytes) (rowsToldBefore bytes (yearsTold bytes))
     && (indexPlaced bytes (yearsTold bytes)
-    && eqb (countTold bytes) (rowsToldBefore bytes (yearsTold bytes)))))
+    && eqb (length bytes) (rowsOffset (yearsTold bytes) + 6 * countTold bytes))))
 
--- What is given for bytes: refused with 16, 17 or 18, or given out where they are taken for a sheet.
+-- What is given for bytes: refused with 16, 17 or 18, or given out where they are accepted.
 abbrev pub ofLoaded : {A : Type 0} → List ℕ → (ℕ → A) → A → A
 ofLoaded bytes refused given =
     cond (ltb (length bytes) 16) (refused 16)

@@ -5,29 +5,33 @@ use Prim.Native.Nat.{ℕ, zero, suc, _+_, _*_, _-_, _/_, _≤_, _<_}
 use lib.ListN.{length, getD}
 use Rattle.laws.specs.Joined.{joined}
 use Rattle.laws.specs.Promise.{Asked, _else_, Promised}
+use Rattle.layout.specs.Reading.{numberAt}
 use Rattle.molad.specs.Years.{InYears}
 use Rattle.rest.specs.Wings.{IsWing, tableOf}
 use Rattle.stretch.specs.Stretches.{stretchRows}
 use Rattle.sheet.specs.Sheet.{mostYears, yearRows, rowsBefore}
 use Rattle.sheet.specs.Promises.{offsetTold, rowsTold, rowsToldBefore}
-use Rattle.loaded.specs.Check.{yearsTold, firstTold, countTold, indexTold, rowsAtTold, loadedRefusal}
+use Rattle.loaded.specs.Check.{loadedRefusal}
 use Rattle.loaded.specs.Rows.{rowsAnswer, rowsOf, namedSheet}
-use Rattle.loaded.specs.Walk.{rowPlace, noMore, rowRead, rowGiven, rowAfter, noRow, begunAt}
+use Rattle.loaded.specs.Walk.{rowGiven, rowAfter, begunAt, movedOn}
 use Rattle.loaded.specs.declared.years.RowsAnswer.{RowsAnswer}
 use Rattle.loaded.specs.declared.walk.Row.{Row}
+use Rattle.loaded.specs.declared.walk.Walker.{Walker}
 
 -- The year count, the first and the last year can come from a writer.
 abbrev pub WritersYears : List ℕ → Type 0
 WritersYears bytes =
-    ((1 ≤ yearsTold bytes) × (yearsTold bytes ≤ mostYears)) × (InYears (firstTold bytes) × InYears (firstTold bytes + yearsTold bytes - 1))
+    let years = numberAt bytes 0 2 in
+    let first = numberAt bytes 2 2 in
+    ((1 ≤ years) × (years ≤ mostYears)) × (InYears first × InYears (first + years - 1))
 
 -- Header, index and size fit each other.
 pub record Placed (bytes : List ℕ) : Type 0 where
-  pub index-offset : indexTold bytes ≡ 16
-  pub rows-offset : rowsAtTold bytes ≡ 16 + 8 * yearsTold bytes
-  pub rows-counted : countTold bytes ≡ rowsToldBefore bytes (yearsTold bytes)
-  pub offsets : (i : ℕ) → i < yearsTold bytes → offsetTold bytes i ≡ 16 + 8 * yearsTold bytes + 6 * rowsToldBefore bytes i
-  pub size : length bytes ≡ 16 + 8 * yearsTold bytes + 6 * countTold bytes
+  pub index-offset : numberAt bytes 8 4 ≡ 16
+  pub rows-offset : numberAt bytes 12 4 ≡ 16 + 8 * numberAt bytes 0 2
+  pub rows-counted : numberAt bytes 4 4 ≡ rowsToldBefore bytes (numberAt bytes 0 2)
+  pub offsets : (i : ℕ) → i < numberAt bytes 0 2 → offsetTold bytes i ≡ 16 + 8 * numberAt bytes 0 2 + 6 * rowsToldBefore bytes i
+  pub size : length bytes ≡ 16 + 8 * numberAt bytes 0 2 + 6 * numberAt bytes 4 4
 
 -- What is asked of a sheet, in document 02's order, before anything else.
 abbrev pub askedOfLoaded : List ℕ → List Asked → List Asked
@@ -39,11 +43,11 @@ PromisedRefusal bytes = Promised (λ n. n) (askedOfLoaded bytes []) (λ _. Unit 
 
 -- A year's rows: from the byte on that its index entry tells, 6 for each of its rows, all within the sheet.
 abbrev pub OnSheet : List ℕ → ℕ → Type 0
-OnSheet bytes year = (firstTold bytes ≤ year) × (year ≤ firstTold bytes + yearsTold bytes - 1)
+OnSheet bytes year = (numberAt bytes 2 2 ≤ year) × (year ≤ numberAt bytes 2 2 + numberAt bytes 0 2 - 1)
 
 pub record RowsOfYear (bytes : List ℕ) (year : ℕ) (r : RowsAnswer) : Type 0 where
-  pub starts : r .offset ≡ offsetTold bytes (year - firstTold bytes)
-  pub long : r .length ≡ 6 * rowsTold bytes (year - firstTold bytes)
+  pub starts : r .offset ≡ offsetTold bytes (year - numberAt bytes 2 2)
+  pub long : r .length ≡ 6 * rowsTold bytes (year - numberAt bytes 2 2)
   pub inside : r .offset + r .length ≤ length bytes
 
 -- Refused, an empty part.
@@ -62,21 +66,43 @@ PromisedNamed named one two year =
     let bytes = namedSheet named one two in
     Promised (λ (r : RowsAnswer). r .refusal) (IsWing named else 15 ∷ askedOfRows bytes year) (RowsOfYear bytes year) EmptyPart
 
+-- The header counts row k, from 0 on, and its six bytes are there; what they tell; and that there is no more.
+abbrev pub RowThere : List ℕ → ℕ → Type 0
+RowThere bytes k = (k < numberAt bytes 4 4) × (16 + 8 * numberAt bytes 0 2 + 6 * k + 6 ≤ length bytes)
+
+abbrev pub RowTold : List ℕ → ℕ → Row → Type 0
+RowTold bytes k r =
+    let at = 16 + 8 * numberAt bytes 0 2 + 6 * k in
+    (r .more ≡ 1) × ((r .first ≡ numberAt bytes at 4) × ((r .length ≡ numberAt bytes (at + 4) 1) × (r .wing ≡ numberAt bytes (at + 5) 1)))
+
+abbrev pub NoMore : Row → Type 0
+NoMore r = (r .more ≡ 0) × ((r .first ≡ 0) × ((r .length ≡ 0) × (r .wing ≡ 0)))
+
+-- A call of `next` at any row, on any bytes: that row, and the walker goes one row on; or no more, and it stays.
+pub record StepOf (bytes : List ℕ) (k : ℕ) : Type 0 where
+  pub row : RowThere bytes k → RowTold bytes k (rowGiven bytes k) × (rowAfter bytes k ≡ k + 1)
+  pub none : (¬ RowThere bytes k) → NoMore (rowGiven bytes k) × (rowAfter bytes k ≡ k)
+
 -- The row at which a walker from row k on is after n calls of `next`, and what the call after these hands out.
-unfoldable pub placeAfter : List ℕ → ℕ → ℕ → ℕ
-placeAfter bytes k zero = k
-placeAfter bytes k (suc n) = rowAfter bytes (placeAfter bytes k n)
+unfoldable pub rowAfterCalls : List ℕ → ℕ → ℕ → ℕ
+rowAfterCalls bytes k zero = k
+rowAfterCalls bytes k (suc n) = rowAfter bytes (rowAfterCalls bytes k n)
 
 abbrev pub handedOut : List ℕ → ℕ → ℕ → Row
-handedOut bytes k n = rowGiven bytes (placeAfter bytes k n)
+handedOut bytes k n = rowGiven bytes (rowAfterCalls bytes k n)
+
+-- The walker itself after n calls.
+unfoldable pub afterCalls : Walker → ℕ → Walker
+afterCalls walker zero = walker
+afterCalls walker (suc n) = movedOn (afterCalls walker n)
 
 -- A walk from where it begins: each row that the header counts, in turn, then no more for ever. Begun on bytes that are
 -- refused it has ended already, if they are no more than memory can hold.
 pub record WalkOf (bytes : List ℕ) : Type 0 where
   pub refusal : begunAt bytes .refusal ≡ loadedRefusal bytes
-  pub rows : loadedRefusal bytes ≡ 0 → (n : ℕ) → n < countTold bytes → handedOut bytes (begunAt bytes .row) n ≡ rowRead bytes (rowPlace bytes n)
-  pub no-more : loadedRefusal bytes ≡ 0 → (n : ℕ) → countTold bytes ≤ n → handedOut bytes (begunAt bytes .row) n ≡ noMore
-  pub ended : (¬ (loadedRefusal bytes ≡ 0)) → length bytes ≤ noRow → (n : ℕ) → handedOut bytes (begunAt bytes .row) n ≡ noMore
+  pub rows : loadedRefusal bytes ≡ 0 → (n : ℕ) → n < numberAt bytes 4 4 → RowTold bytes n (handedOut bytes (begunAt bytes .row) n)
+  pub no-more : loadedRefusal bytes ≡ 0 → (n : ℕ) → numberAt bytes 4 4 ≤ n → NoMore (handedOut bytes (begunAt bytes .row) n)
+  pub ended : (¬ (loadedRefusal bytes ≡ 0)) → length bytes ≤ 18446744073709551615 → (n : ℕ) → NoMore (handedOut bytes (begunAt bytes .row) n)
 
 -- The numbers of a row; those that the first n calls of a walk hand out; those of the rows in a part.
 abbrev pub rowNumbers : Row → List ℕ
@@ -86,23 +112,23 @@ abbrev pub rowsWalked : List ℕ → ℕ → List ℕ
 rowsWalked bytes n = joined (λ k. rowNumbers (handedOut bytes (begunAt bytes .row) k)) n
 
 abbrev pub rowsInPart : List ℕ → List ℕ
-rowsInPart part = joined (λ k. rowNumbers (rowRead part (6 * k))) (length part / 6)
+rowsInPart part = joined (λ k. numberAt part (6 * k) 4 ∷ numberAt part (6 * k + 4) 1 ∷ numberAt part (6 * k + 5) 1 ∷ []) (length part / 6)
 
 -- The part that is shown for the sheet's year i, counted from 0. Put together, the rows by year are the rows walked.
 abbrev pub yearPart : List ℕ → ℕ → List ℕ
-yearPart bytes i = rowsOf bytes (rowsAnswer bytes (firstTold bytes + i))
+yearPart bytes i = rowsOf bytes (rowsAnswer bytes (numberAt bytes 2 2 + i))
 
 abbrev pub Together : List ℕ → Type 0
-Together bytes = joined (λ i. rowsInPart (yearPart bytes i)) (yearsTold bytes) ≡ rowsWalked bytes (countTold bytes)
+Together bytes = joined (λ i. rowsInPart (yearPart bytes i)) (numberAt bytes 0 2) ≡ rowsWalked bytes (numberAt bytes 4 4)
 
 -- A year's stretches, each with its wing.
 abbrev pub withWing : ℕ → List ℕ → List ℕ
 withWing wing list = joined (λ k. getD list (2 * k) 0 ∷ getD list (2 * k + 1) 0 ∷ wing ∷ []) (length list / 2)
 
--- The bytes are taken for a sheet and yield what a writer has written for so many years, from year h on: by year, and by
+-- The bytes are accepted for a sheet and yield what a writer has written for so many years, from year h on: by year, and by
 -- walking from the first row to the last.
 pub record Yields (wing h years : ℕ) (bytes : List ℕ) : Type 0 where
   pub accepted : loadedRefusal bytes ≡ 0
   pub by-year : (i : ℕ) → i < years → (rowsAnswer bytes (h + i) .refusal ≡ 0) × (rowsOf bytes (rowsAnswer bytes (h + i)) ≡ yearRows wing (h + i))
-  pub counted : countTold bytes ≡ rowsBefore wing h years
+  pub counted : numberAt bytes 4 4 ≡ rowsBefore wing h years
   pub walked : rowsWalked bytes (rowsBefore wing h years) ≡ joined (λ i. withWing wing (stretchRows (tableOf wing) (h + i))) years

@@ -37,12 +37,13 @@ rowAfter bytes k = cond (hasRow bytes k) (k + 1) k
 abbrev pub stepAt : List ℕ → ℕ → Stepped
 stepAt bytes k = record { row = rowGiven bytes k; next = rowAfter bytes k }
 
--- A walk begins at row 0. Begun on bytes that are not taken for a sheet it has ended already.
-abbrev pub noRow : ℕ
-noRow = 18446744073709551615
+-- A walk begins at row 0. Begun on bytes that are not accepted it has ended already: it is at a row that no memory has room
+-- for.
+abbrev pub endedRow : ℕ
+endedRow = 18446744073709551615
 
 unfoldable pub begunAt : List ℕ → Begun
-begunAt bytes = ofLoaded bytes (λ n. record { refusal = n; row = noRow }) (record { refusal = 0; row = 0 })
+begunAt bytes = ofLoaded bytes (λ n. record { refusal = n; row = endedRow }) (record { refusal = 0; row = 0 })
 
 -- A walker keeps the lent sheet and its place.
 abbrev pub begunOn : RefT (List ℕ) → Walker

@@ -1,4 +1,4 @@
-// Are the bytes taken for a sheet?
+// Are the bytes accepted for a sheet?
 ghost use mathlib.Core.Path.{_≡_};
 ghost use mathlib.Core.Bool.{_&&_};
 ghost use Prim.Native.Nat.{_≤_};
@@ -43,7 +43,7 @@ fn all_placed(sheet: &[u8], years: u64) -> bool
     index_placed(sheet, years, rows)
 }
 
-// Why the bytes are not taken for a sheet, or 0. Refusal 16: fewer than 16 bytes. 17: a count of years, a first or a last
+// Why the bytes are not accepted for a sheet, or 0. Refusal 16: fewer than 16 bytes. 17: a count of years, a first or a last
 // year that no writer puts on a sheet. 18: header, index and size do not fit each other.
 pub fn sheet_refusal(sheet: &[u8]) -> u64
     ensures { λ r. ⌜ r ≡ loadedRefusal (now (sheet .entry)) ⌝ }

@@ -24,8 +24,8 @@ pub struct Begun {
     pub row: u64,
 }
 
-// The number of no row: no memory has room for so many.
-const NO_ROW: u64 = 18_446_744_073_709_551_615;
+// The row of a walk that has ended before it began: no memory has room for so many.
+const ENDED_ROW: u64 = 18_446_744_073_709_551_615;
 
 // Has the sheet a row of this number? The header counts it, and all its bytes are there.
 fn has_row(sheet: &[u8], row: u64) -> bool
@@ -67,8 +67,8 @@ pub fn step_at(sheet: &[u8], row: u64) -> Stepped
     }
 }
 
-// A step: where a walk through a sheet begins. On bytes that are not taken for a sheet, refusals 16, 17 and 18, it has
-// ended already.
+// A step: where a walk through a sheet begins. On bytes that are not accepted, refusals 16, 17 and 18, it has ended
+// already.
 pub fn first_row(sheet: &[u8]) -> Begun
     ensures { λ r. ⌜ r ≡ begunAt (now (sheet .entry)) ⌝ }
 {
@@ -76,13 +76,13 @@ pub fn first_row(sheet: &[u8]) -> Begun
     if refusal != 0 {
         return Begun {
             refusal,
-            row: NO_ROW,
+            row: ENDED_ROW,
         };
     }
     Begun { refusal: 0, row: 0 }
 }
 
-// A sheet, and the number of the row that it hands out next.
+// A sheet, and the number of the row that is handed out next.
 pub struct Walker<'a> {
     pub sheet: &'a [u8],
     pub row: u64,

@@ -22,8 +22,8 @@ fn no_rows(refusal: u64) -> RowsAnswer
     }
 }
 
-// The place of a year's rows in a sheet. Refusals 16, 17 and 18 for bytes that are not taken for a sheet; 1 for a year that
-// is not on it.
+// The place of a year's rows in a sheet. Refusals 16, 17 and 18 for bytes that are not accepted; 1 for a year that is not on
+// the sheet.
 pub fn rows_place(sheet: &[u8], year: u64) -> RowsAnswer
     ensures { λ r. ⌜ r ≡ rowsAnswer (now (sheet .entry)) year ⌝ }
 {

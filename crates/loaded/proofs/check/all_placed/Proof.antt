@@ -1,13 +1,18 @@
 use borrow.Author.Needs.{needs}
 use mathlib.Core.Path.{_≡_, sym, _∙_}
+use mathlib.Core.Bool.{Bool, true, _&&_, and-true, and-false, and-comm}
 use Prim.Native.Nat.{_+_, _*_}
 use native.Mathlib.Omega.{arith}
 use borrow.Author.Tests.{eq-eqb, ne-eqb}
 use lib.ListN.{length}
 use Rattle.layout.specs.Reading.{numberAt}
-use Rattle.loaded.specs.Check.{placed}
+use Rattle.loaded.specs.Check.{indexPlaced, placed}
 use Rattle.loaded.proofs.check.all_placed.Statement.{statement}
 use Rattle.loaded.proofs.check.all_placed.Tie as tie
+
+-- The code asks for the sum of rows behind the index, and for the size before both.
+sum-first : (index sum : Bool) → index && sum ≡ sum && (index && true)
+sum-first index sum = rw (and-true index) (and-comm index sum)
 
 -- What the tests passed say: the header's offsets, and the size.
 index-good : (c : tie.Else1) → numberAt (c .before .before .before .before .args .sheet .now) 8 4 ≡ 16
@@ -44,7 +49,7 @@ returns-3 c =
       eq-eqb (numberAt bytes 8 4) 16 (index-good (s .before .before)),
       eq-eqb (numberAt bytes 12 4) (16 + 8 * numberAt bytes 0 2) (rows-good s),
       ne-eqb (length bytes) (16 + 8 * numberAt bytes 0 2 + 6 * numberAt bytes 4 4) (λ e. c .if3 .taken (omega (arith, f .four-at .ensures .0, e))),
-    )
+    ) (simp and-false)
 
 returns-4 : tie.Need-returns-4
 unfolding placed
@@ -57,7 +62,7 @@ returns-4 c =
       eq-eqb (numberAt bytes 8 4) 16 (index-good (s .before .before)),
       eq-eqb (numberAt bytes 12 4) (16 + 8 * numberAt bytes 0 2) (rows-good s),
       eq-eqb (length bytes) (16 + 8 * numberAt bytes 0 2 + 6 * numberAt bytes 4 4) (size-good t),
-    ) (rw (f .before .before .pre .1 .0, f .four-at .ensures .0) at (c .index-placed .ensures))
+    ) ((rw (f .before .before .pre .1 .0, f .four-at .ensures .0) at (c .index-placed .ensures)) ∙ sum-first (indexPlaced bytes (numberAt bytes 0 2)) _)
 
 pub all-placed-spec : {M : Type 1} → statement M
 all-placed-spec =

@@ -1,6 +1,6 @@
 use borrow.Author.Needs.{needs}
 use mathlib.Core.Path.{sym, _∙_}
-use Rattle.loaded.specs.Walk.{noRow, begunAt}
+use Rattle.loaded.specs.Walk.{endedRow, begunAt}
 use Rattle.loaded.proofs.Accepted.{where-accepted, where-refused}
 use Rattle.loaded.proofs.walk.first_row.Statement.{statement}
 use Rattle.loaded.proofs.walk.first_row.Tie as tie
@@ -10,14 +10,14 @@ unfolding begunAt
 returns c =
     let f = c .before in
     let bytes = f .before .before .args .sheet .now in
-    rw (f .sheet-refusal .ensures) (sym (where-refused bytes (λ n. record { refusal = n; row = noRow }) _ (λ z. c .if1 .taken (f .sheet-refusal .ensures ∙ z))))
+    rw (f .sheet-refusal .ensures) (sym (where-refused bytes (λ n. record { refusal = n; row = endedRow }) _ (λ z. c .if1 .taken (f .sheet-refusal .ensures ∙ z))))
 
 returns-2 : tie.Need-returns-2
 unfolding begunAt
 returns-2 c =
     let f = c .before in
     let bytes = f .before .before .args .sheet .now in
-    sym (where-accepted bytes (λ n. record { refusal = n; row = noRow }) _ (sym (f .sheet-refusal .ensures) ∙ c .if1 .left))
+    sym (where-accepted bytes (λ n. record { refusal = n; row = endedRow }) _ (sym (f .sheet-refusal .ensures) ∙ c .if1 .left))
 
 pub first-row-spec : {M : Type 1} → statement M
 first-row-spec = tie.close (tie.spec (search needs) returns returns-2)

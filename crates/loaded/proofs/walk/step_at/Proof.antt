@@ -1,22 +1,23 @@
 -- Where there is such a row its bytes are read; else nothing is.
 use borrow.Author.Needs.{needs}
 use mathlib.Core.Path.{sym, _∙_}
-use Prim.Native.Nat.{_+_, _*_, _<_}
+use Prim.Native.Nat.{_+_, _*_, _≤_}
 use native.Mathlib.Omega.{arith}
 use lib.ListN.{length}
-use Rattle.loaded.specs.Walk.{rowPlace, rowGiven, rowAfter}
+use Rattle.loaded.specs.Walk.{rowGiven, rowAfter}
+use Rattle.loaded.specs.Promises.{RowThere}
 use Rattle.loaded.proofs.Walks.{row-there}
 use Rattle.loaded.proofs.walk.step_at.Statement.{statement}
 use Rattle.loaded.proofs.walk.step_at.Tie as tie
 
 -- The row's bytes lie within the sheet.
-there : (c : tie.Then1) → let a = c .before .before .before .args in rowPlace (a .sheet .now) (a .row) + 5 < length (a .sheet .now)
+there : (c : tie.Then1) → let a = c .before .before .before .args in RowThere (a .sheet .now) (a .row)
 there c =
     let a = c .before .before .before .args in
-    row-there (a .sheet .now) (a .row) (sym (c .before .has-row .ensures) ∙ c .if1 .taken) .1
+    row-there (a .sheet .now) (a .row) (sym (c .before .has-row .ensures) ∙ c .if1 .taken)
 
-within : (c : tie.After-two-at) → let a = c .before .before .before .before .args in 16 + 8 * c .two-at .result + 6 * a .row + 5 < length (a .sheet .now)
-within c = rw (c .two-at .ensures .0) (there (c .before))
+within : (c : tie.After-two-at) → let a = c .before .before .before .before .args in 16 + 8 * c .two-at .result + 6 * a .row + 6 ≤ length (a .sheet .now)
+within c = rw (c .two-at .ensures .0) (there (c .before) .1)
 
 add-one-at : tie.Need-add-one-at
 add-one-at c = let p = within (c .before) in record { fits = omega arith }
@@ -43,7 +44,7 @@ step-at-spec =
     tie.close
     (tie.spec
     (search needs)
-    (λ c κs. omega (arith, there c))
+    (λ c κs. omega (arith, there c .1))
     (search needs)
     (search needs)
     (λ c. let p = within c in record { fits = omega arith })

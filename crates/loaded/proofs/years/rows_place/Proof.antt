@@ -12,7 +12,7 @@ use Rattle.loaded.proofs.Answers.{rows-refused, rows-of-sheet}
 use Rattle.loaded.proofs.years.rows_place.Statement.{statement}
 use Rattle.loaded.proofs.years.rows_place.Tie as tie
 
--- The bytes are taken for a sheet, and what is so then.
+-- The bytes are accepted, and what is so then.
 good : (c : tie.Else1) → loadedRefusal (c .before .before .before .args .sheet .now) ≡ 0
 good c = sym (c .before .sheet-refusal .ensures) ∙ c .if1 .left
 
