@@ -79,7 +79,7 @@ static int show(const char *file, const uint8_t *sheet, size_t length)
 
 int main(int argc, char **argv)
 {
-    /* a byte more than any sheet has, so that of a longer file too much is read, and refused */
+    /* a byte more than any written sheet has: a longer file is cut here, and refused */
     static uint8_t sheet[BD_SHEET_ROOM + 1];
     if (argc != 2 || *argv[1] == '\0') {
         fprintf(stderr, "usage: sheet_show FILE\nFILE is a sheet that a panel loads, as make sheet writes it\n");
@@ -92,5 +92,10 @@ int main(int argc, char **argv)
         return 1;
     }
     fclose(file);
-    return show(argv[1], sheet, length);
+    int status = show(argv[1], sheet, length);
+    if (fflush(stdout) != 0) {
+        fprintf(stderr, "sheet_show: cannot be printed: %s\n", strerror(errno));
+        return 1;
+    }
+    return status;
 }
