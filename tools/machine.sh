@@ -78,7 +78,7 @@ made() {
     shift 2
     fresh "$file" && return
     need_rt
-    echo "proving and building $what, once until a source or the kit changes: up to two minutes on two cores" >&2
+    echo "proving and building $what, once until a source or the kit changes: up to three minutes on two cores" >&2
     mkdir -p target
     rt "$@" 2>&1 | follow $log || {
         cat $log >&2
