@@ -20,7 +20,7 @@ abbrev pub capacity : ℕ → ℕ
 capacity zero = 1
 capacity (suc n) = 256 * capacity n
 
-little-long : (n x : ℕ) → length (littleEndian n x) ≡ n
+pub little-long : (n x : ℕ) → length (littleEndian n x) ≡ n
 unfolding littleEndian
 little-long zero x = refl
 little-long (suc n) x = ap suc (little-long n _)

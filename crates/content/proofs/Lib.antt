@@ -1,0 +1,4 @@
+pub mod Compared
+pub mod OneList
+pub mod Told
+pub mod Written
