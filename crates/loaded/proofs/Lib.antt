@@ -3,3 +3,4 @@ pub mod Answers
 pub mod Together
 pub mod Walks
 pub mod Written
+pub mod Exactly

@@ -40,31 +40,31 @@ part-rows bytes at n p =
           wing-at,
         )
 
-module _ (bytes : List ℕ) (z : loadedRefusal bytes ≡ 0) where
+module _ (wing : ℕ) (bytes : List ℕ) (z : loadedRefusal wing bytes ≡ 0) where
   abbrev read : ℕ → List ℕ
   read k = rowNumbers (rowRead bytes (rowPlace bytes k))
 
   -- Where a year's rows are told to stand.
-  pub year-place : (i : ℕ) → i < yearsTold bytes → rowsAnswer bytes (firstTold bytes + i) ≡ record { refusal = 0; offset = offsetTold bytes i; length = 6 * rowsTold bytes i }
+  pub year-place : (i : ℕ) → i < yearsTold bytes → rowsAnswer wing bytes (firstTold bytes + i) ≡ record { refusal = 0; offset = offsetTold bytes i; length = 6 * rowsTold bytes i }
   year-place i p =
       let e : firstTold bytes + i - firstTold bytes ≡ i = omega arith in
       let on = let-pass (ranged (firstTold bytes) (firstTold bytes + yearsTold bytes - 1) (firstTold bytes + i)) (omega arith, omega arith) in
-      rw (rows-of-sheet bytes (firstTold bytes + i) z, on, e)
+      rw (rows-of-sheet wing bytes (firstTold bytes + i) z, on, e)
 
   -- The rows in a year's part, counted from the sheet's first row on.
-  year-rows : (i : ℕ) → i < yearsTold bytes → rowsInPart (yearPart bytes i) ≡ joined (λ k. read (rowsToldBefore bytes i + k)) (rowsTold bytes i)
+  year-rows : (i : ℕ) → i < yearsTold bytes → rowsInPart (yearPart wing bytes i) ≡ joined (λ k. read (rowsToldBefore bytes i + k)) (rowsTold bytes i)
   year-rows i p =
-      let fits = accepted bytes z .1 .1 in
+      let fits = accepted wing bytes z .1 .1 .0 in
       rw (year-place i p)
       (part-rows bytes (offsetTold bytes i) (rowsTold bytes i) (rows-inside bytes fits i p)
       ∙ joined-alike _ _ (rowsTold bytes i) (λ k q.
       let e : offsetTold bytes i + 6 * k ≡ rowPlace bytes (rowsToldBefore bytes i + k) = omega (arith, fits .offsets i p) in
       rw e))
 
-  pub together : Together bytes
+  pub together : Together wing bytes
   unfolding rowsToldBefore
   together =
-      let c = accepted bytes z .1 .1 .rows-counted in
+      let c = accepted wing bytes z .1 .1 .0 .rows-counted in
       joined-alike _ _ (yearsTold bytes) year-rows
       ∙ sym (joined-rows read (rowsTold bytes) (yearsTold bytes))
-      ∙ rw (← c) (joined-alike _ _ (countTold bytes) (λ k q. rw (rows-handed-out bytes z k q)))
+      ∙ rw (← c) (joined-alike _ _ (countTold bytes) (λ k q. rw (rows-handed-out wing bytes z k q)))

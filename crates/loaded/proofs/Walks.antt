@@ -86,48 +86,49 @@ module _ (bytes : List ℕ) where
     pub any-ends : (n : ℕ) → length bytes ≤ n → NoMore (handedOut bytes k n)
     any-ends n p = step-of bytes (rowAfterCalls bytes k n) .none (λ t. omega (arith, t .1, goes-on n t)) .0
 
+module _ (wing : ℕ) (bytes : List ℕ) where
   -- A sheet has the rows that its header counts, and no other; a walk begins at the first.
-  module _ (z : loadedRefusal bytes ≡ 0) where
+  module _ (z : loadedRefusal wing bytes ≡ 0) where
     present : (n : ℕ) → n < countTold bytes → RowThere bytes n
-    present n p = (p, omega (arith, accepted bytes z .1 .1 .size))
+    present n p = (p, omega (arith, accepted wing bytes z .1 .1 .0 .size))
 
-    begins : begunAt bytes ≡ record { refusal = 0; row = 0 }
+    begins : begunAt wing bytes ≡ record { refusal = 0; row = 0 }
     unfolding begunAt
-    begins = where-accepted bytes (λ n. record { refusal = n; row = endedRow }) _ z
+    begins = where-accepted wing bytes (λ n. record { refusal = n; row = endedRow }) _ z
 
     at-row : (n : ℕ) → n ≤ countTold bytes → rowAfterCalls bytes 0 n ≡ n
     unfolding rowAfterCalls
     at-row zero p = refl
     at-row (suc n) p = rw (at-row n (omega arith)) (omega (arith, step-of bytes n .row (present n (omega arith)) .1))
 
-    pub rows-handed-out : (n : ℕ) → n < countTold bytes → handedOut bytes (begunAt bytes .row) n ≡ rowRead bytes (rowPlace bytes n)
+    pub rows-handed-out : (n : ℕ) → n < countTold bytes → handedOut bytes (begunAt wing bytes .row) n ≡ rowRead bytes (rowPlace bytes n)
     unfolding rowGiven
     rows-handed-out n p = rw (begins, at-row n (omega arith), has bytes n (present n p))
 
-    none-left : (n : ℕ) → countTold bytes ≤ n → NoMore (handedOut bytes (begunAt bytes .row) n)
+    none-left : (n : ℕ) → countTold bytes ≤ n → NoMore (handedOut bytes (begunAt wing bytes .row) n)
     none-left n p =
         let rows = countTold bytes in
         let u : ¬ RowThere bytes rows = λ t. omega (arith, t .0) in
         let e : n ≡ rows + (n - rows) = omega arith in
-        rw (begins, e, calls-after 0 rows (n - rows), at-row rows (omega arith), stays rows u (n - rows)) (step-of bytes rows .none u .0)
+        rw (begins, e, calls-after bytes 0 rows (n - rows), at-row rows (omega arith), stays bytes rows u (n - rows)) (step-of bytes rows .none u .0)
 
-  refused-begins : (¬ (loadedRefusal bytes ≡ 0)) → begunAt bytes ≡ record { refusal = loadedRefusal bytes; row = endedRow }
+  refused-begins : (¬ (loadedRefusal wing bytes ≡ 0)) → begunAt wing bytes ≡ record { refusal = loadedRefusal wing bytes; row = endedRow }
   unfolding begunAt
-  refused-begins = where-refused bytes (λ n. record { refusal = n; row = endedRow }) _
+  refused-begins = where-refused wing bytes (λ n. record { refusal = n; row = endedRow }) _
 
-  pub walk-of : WalkOf bytes
+  pub walk-of : WalkOf wing bytes
   walk-of =
       record {
-        refusal = by-cases (ℕ-discrete (loadedRefusal bytes) 0) (λ z. rw (begins z, z)) (λ u. rw (refused-begins u));
+        refusal = by-cases (ℕ-discrete (loadedRefusal wing bytes) 0) (λ z. rw (begins z, z)) (λ u. rw (refused-begins u));
         rows = λ z n p. rw (rows-handed-out z n p) (refl, (refl, (refl, refl)));
         no-more = none-left;
-        ended = λ u l n. let w : ¬ RowThere bytes endedRow = λ t. omega (arith, t .1) in rw (refused-begins u, stays endedRow w n) (step-of bytes endedRow .none w .0);
+        ended = λ u l n. let w : ¬ RowThere bytes endedRow = λ t. omega (arith, t .1) in rw (refused-begins u, stays bytes endedRow w n) (step-of bytes endedRow .none w .0);
       }
 
 -- The walker that `begin` makes keeps its sheet, and is after each call at the row at which the walk is.
 pub walker-after :
-    (sheet : RefT (List ℕ)) (n : ℕ) →
-    afterCalls (begunOn sheet) n ≡ record { sheet = sheet; row = rowAfterCalls (now sheet) (begunAt (now sheet) .row) n }
+    (wing : ℕ) (sheet : RefT (List ℕ)) (n : ℕ) →
+    afterCalls (begunOn wing sheet) n ≡ record { sheet = sheet; row = rowAfterCalls (now sheet) (begunAt wing (now sheet) .row) n }
 unfolding afterCalls rowAfterCalls
-walker-after sheet zero = refl
-walker-after sheet (suc n) = rw (walker-after sheet n)
+walker-after wing sheet zero = refl
+walker-after wing sheet (suc n) = rw (walker-after wing sheet n)

@@ -18,34 +18,29 @@ use Rattle.sheet.proofs.Answers.{sheet-written}
 use Rattle.loaded.specs.Check.{countTold, loadedRefusal}
 use Rattle.loaded.specs.Rows.{rowsAnswer, rowsOf}
 use Rattle.loaded.specs.Walk.{rowPlace, rowRead}
-use Rattle.loaded.specs.Promises.{rowNumbers, rowsWalked, withWing, Yields}
+use Rattle.loaded.specs.Promises.{WritersYears, Placed, rowNumbers, rowsWalked, withWing, Yields}
 use Rattle.loaded.proofs.Accepted.{refusal-promised}
 use Rattle.loaded.proofs.Together.{year-place}
 use Rattle.loaded.proofs.Walks.{rows-handed-out}
 
 -- What header and index tell of a sheet is all that is asked of it.
 pub sheet-accepted :
-    (wing h years : ℕ) (bytes : List ℕ) → 1 ≤ years → years ≤ mostYears → 1 ≤ h → h + years ≤ 10000 →
-    SheetOf wing h years bytes → loadedRefusal bytes ≡ 0
-sheet-accepted wing h years bytes some most from to s =
+    (wing h years : ℕ) (bytes : List ℕ) → IsWing wing → 1 ≤ years → years ≤ mostYears → 1 ≤ h → h + years ≤ 10000 →
+    SheetOf wing h years bytes → loadedRefusal wing bytes ≡ 0
+sheet-accepted wing h years bytes w some most from to s =
     let y = s .years-told in
     let f = s .first-told in
-    refusal-promised bytes .done .1 (
-      omega (arith, s .all),
-      (
-        rw (y, f) ((some, most), ((from, omega arith), (omega arith, omega arith))),
-        (
-          record {
-            index-offset = s .index-offset;
-            rows-offset = rw y (s .rows-offset);
-            rows-counted = rw y (s .rows-told);
-            offsets = rw y (s .offsets);
-            size = rw (y, s .rows-told) (s .all);
-          },
-          tt,
-        ),
-      ),
-    )
+    let fits : Placed bytes =
+    record {
+      index-offset = s .index-offset;
+      rows-offset = rw y (s .rows-offset);
+      rows-counted = rw y (s .rows-told);
+      offsets = rw y (s .offsets);
+      size = rw (y, s .rows-told) (s .all);
+    }
+    in
+    let ends : WritersYears bytes = rw (y, f) ((some, most), ((from, omega arith), (omega arith, omega arith))) in
+    refusal-promised wing bytes .done .1 (w, (omega (arith, s .all), (ends, (fits, (rw (y, f) s, tt)))))
 
 module _ (wing h years : ℕ) (w : IsWing wing) (some : 1 ≤ years) (most : years ≤ mostYears) (from : 1 ≤ h) (to : h + years ≤ 10000) where
   abbrev bytes : List ℕ
@@ -54,14 +49,14 @@ module _ (wing h years : ℕ) (w : IsWing wing) (some : 1 ≤ years) (most : yea
   told : SheetOf wing h years bytes
   told = sheet-of wing h years w some most from to
 
-  taken : loadedRefusal bytes ≡ 0
-  taken = sheet-accepted wing h years bytes some most from to told
+  taken : loadedRefusal wing bytes ≡ 0
+  taken = sheet-accepted wing h years bytes w some most from to told
 
   -- A year's part.
-  year-part : (i : ℕ) → i < years → (rowsAnswer bytes (h + i) .refusal ≡ 0) × (rowsOf bytes (rowsAnswer bytes (h + i)) ≡ yearRows wing (h + i))
+  year-part : (i : ℕ) → i < years → (rowsAnswer wing bytes (h + i) .refusal ≡ 0) × (rowsOf bytes (rowsAnswer wing bytes (h + i)) ≡ yearRows wing (h + i))
   year-part i p =
       let e = entry-told wing h years w some most from to i p in
-      let place = rw (told .first-told) at (year-place bytes taken i (rw (told .years-told) p)) in (
+      let place = rw (told .first-told) at (year-place wing bytes taken i (rw (told .years-told) p)) in (
         rw place,
         rw (place, e .0, e .1 .0)
             (held-part bytes (yearRows wing (h + i)) (rowsOffset years + 6 * rowsBefore wing h i) (6 * rowsIn wing (h + i)) (year-held wing h years w some most from to i p) (year-long wing (h + i))),
@@ -82,10 +77,10 @@ module _ (wing h years : ℕ) (w : IsWing wing) (some : 1 ≤ years) (most : yea
       let t = row-told wing h years w some most from to i k p q in
       rw (e, t .0, t .1 .0, t .1 .1))
 
-  all-walked : rowsWalked bytes (rowsBefore wing h years) ≡ joined (λ i. withWing wing (stretchRows (tableOf wing) (h + i))) years
+  all-walked : rowsWalked wing bytes (rowsBefore wing h years) ≡ joined (λ i. withWing wing (stretchRows (tableOf wing) (h + i))) years
   unfolding rowsBefore
   all-walked =
-      joined-alike _ read (rowsBefore wing h years) (λ k q. rw (rows-handed-out bytes taken k (rw counted q)))
+      joined-alike _ read (rowsBefore wing h years) (λ k q. rw (rows-handed-out wing bytes taken k (rw counted q)))
       ∙ joined-rows read (λ i. rowsIn wing (h + i)) years
       ∙ joined-alike _ _ years year-read
 

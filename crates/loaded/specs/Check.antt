@@ -1,5 +1,5 @@
--- Whether bytes are accepted for a sheet, by document 02. What stands in them is read as it is told; bytes that are not there
--- count as 0, and are too few in any case.
+-- Whether bytes are accepted for a sheet of the wing that the caller names, by document 02. What stands in them is read as it
+-- is told; bytes that are not there count as 0, and are too few in any case.
 use mathlib.Core.Bool.{Bool, not, _&&_, _||_, cond}
 use mathlib.Core.List.{List}
 use Prim.Native.Nat.{ℕ, _+_, _*_}
@@ -8,9 +8,11 @@ use lib.ListN.{length}
 use Rattle.laws.specs.Runs.{every, outside}
 use Rattle.layout.specs.Layout.{indexOffset, rowsOffset}
 use Rattle.layout.specs.Reading.{numberAt}
+use Rattle.rest.specs.Wings.{outOfWings}
 use Rattle.sheet.specs.Sheet.{mostYears}
 use Rattle.sheet.specs.Answers.{endsOutside}
 use Rattle.sheet.specs.Promises.{offsetTold, rowsToldBefore}
+use Rattle.content.specs.Content.{contentAgrees}
 
 -- What the header tells: the count of years, the first year, the count of rows, where the index and the rows stand.
 abbrev pub yearsTold : List ℕ → ℕ
@@ -49,12 +51,19 @@ placed bytes =
     && (indexPlaced bytes (yearsTold bytes)
     && eqb (length bytes) (rowsOffset (yearsTold bytes) + 6 * countTold bytes))))
 
--- What is given for bytes: refused with 16, 17 or 18, or given out where they are accepted.
-abbrev pub ofLoaded : {A : Type 0} → List ℕ → (ℕ → A) → A → A
-ofLoaded bytes refused given =
-    cond (ltb (length bytes) 16) (refused 16)
-    (cond (strangeYears bytes) (refused 17)
-    (cond (not (placed bytes)) (refused 18) given))
+-- Rows, wing byte or year lengths differ from the calendar's for the wing.
+abbrev pub differs : ℕ → List ℕ → Bool
+differs wing bytes = not (contentAgrees wing bytes (firstTold bytes) (yearsTold bytes))
 
-unfoldable pub loadedRefusal : List ℕ → ℕ
-loadedRefusal bytes = ofLoaded bytes (λ n. n) 0
+-- What is given for bytes: refused with 15, where the wing is neither 1 nor 2, before all others, then with 16, 17, 18 or 19,
+-- or given out where they are accepted.
+abbrev pub ofLoaded : {A : Type 0} → ℕ → List ℕ → (ℕ → A) → A → A
+ofLoaded wing bytes refused given =
+    cond (outOfWings wing) (refused 15)
+    (cond (ltb (length bytes) 16) (refused 16)
+    (cond (strangeYears bytes) (refused 17)
+    (cond (not (placed bytes)) (refused 18)
+    (cond (differs wing bytes) (refused 19) given))))
+
+unfoldable pub loadedRefusal : ℕ → List ℕ → ℕ
+loadedRefusal wing bytes = ofLoaded wing bytes (λ n. n) 0

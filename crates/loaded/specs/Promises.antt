@@ -9,8 +9,8 @@ use Rattle.layout.specs.Reading.{numberAt}
 use Rattle.molad.specs.Years.{InYears}
 use Rattle.rest.specs.Wings.{IsWing, tableOf}
 use Rattle.stretch.specs.Stretches.{stretchRows}
-use Rattle.sheet.specs.Sheet.{mostYears, yearRows, rowsBefore}
-use Rattle.sheet.specs.Promises.{offsetTold, rowsTold, rowsToldBefore}
+use Rattle.sheet.specs.Sheet.{mostYears, yearRows, rowsBefore, sheet}
+use Rattle.sheet.specs.Promises.{offsetTold, rowsTold, rowsToldBefore, SheetOf}
 use Rattle.loaded.specs.Check.{loadedRefusal}
 use Rattle.loaded.specs.Rows.{rowsAnswer, rowsOf, namedSheet}
 use Rattle.loaded.specs.Walk.{rowGiven, rowAfter, begunAt, movedOn}
@@ -33,13 +33,30 @@ pub record Placed (bytes : List ℕ) : Type 0 where
   pub offsets : (i : ℕ) → i < numberAt bytes 0 2 → offsetTold bytes i ≡ 16 + 8 * numberAt bytes 0 2 + 6 * rowsToldBefore bytes i
   pub size : length bytes ≡ 16 + 8 * numberAt bytes 0 2 + 6 * numberAt bytes 4 4
 
--- What is asked of a sheet, in document 02's order, before anything else.
-abbrev pub askedOfLoaded : List ℕ → List Asked → List Asked
-askedOfLoaded bytes others = (16 ≤ length bytes) else 16 ∷ WritersYears bytes else 17 ∷ Placed bytes else 18 ∷ others
+-- Rows, wing byte and year lengths are the calendar's for the wing: the bytes are a sheet of the wing for the years that they
+-- tell.
+abbrev pub OfCalendar : ℕ → List ℕ → Type 0
+OfCalendar wing bytes = SheetOf wing (numberAt bytes 2 2) (numberAt bytes 0 2) bytes
+
+-- What is asked of a wing's sheet, in document 02's order, before anything else.
+abbrev pub askedOfLoaded : ℕ → List ℕ → List Asked → List Asked
+askedOfLoaded wing bytes others =
+    IsWing wing else 15 ∷ (16 ≤ length bytes) else 16 ∷ WritersYears bytes else 17 ∷ Placed bytes else 18 ∷ OfCalendar wing bytes else 19 ∷ others
 
 -- A number alone.
-abbrev pub PromisedRefusal : List ℕ → ℕ → Type 0
-PromisedRefusal bytes = Promised (λ n. n) (askedOfLoaded bytes []) (λ _. Unit {0}) (λ _ _. Unit {0})
+abbrev pub PromisedRefusal : ℕ → List ℕ → ℕ → Type 0
+PromisedRefusal wing bytes = Promised (λ n. n) (askedOfLoaded wing bytes []) (λ _. Unit {0}) (λ _ _. Unit {0})
+
+-- A writer could have written the bytes for the wing: there are a first year and a count of years for which they are its
+-- list.
+pub record Writers (wing : ℕ) (bytes : List ℕ) : Type 0 where
+  pub first : ℕ
+  pub years : ℕ
+  pub named : IsWing wing
+  pub some : 1 ≤ years
+  pub most : years ≤ mostYears
+  pub covered : InYears first × InYears (first + years - 1)
+  pub written : bytes ≡ sheet wing first years
 
 -- A year's rows: from the byte on that its index entry tells, 6 for each of its rows, all within the sheet.
 abbrev pub OnSheet : List ℕ → ℕ → Type 0
@@ -54,17 +71,15 @@ pub record RowsOfYear (bytes : List ℕ) (year : ℕ) (r : RowsAnswer) : Type 0 
 abbrev pub EmptyPart : ℕ → RowsAnswer → Type 0
 EmptyPart n r = (r .offset ≡ 0) × (r .length ≡ 0)
 
-abbrev pub askedOfRows : List ℕ → ℕ → List Asked
-askedOfRows bytes year = askedOfLoaded bytes (OnSheet bytes year else 1 ∷ [])
+abbrev pub askedOfRows : ℕ → List ℕ → ℕ → List Asked
+askedOfRows wing bytes year = askedOfLoaded wing bytes (OnSheet bytes year else 1 ∷ [])
 
-abbrev pub PromisedRows : List ℕ → ℕ → RowsAnswer → Type 0
-PromisedRows bytes year = Promised (λ (r : RowsAnswer). r .refusal) (askedOfRows bytes year) (RowsOfYear bytes year) EmptyPart
+abbrev pub PromisedRows : ℕ → List ℕ → ℕ → RowsAnswer → Type 0
+PromisedRows wing bytes year = Promised (λ (r : RowsAnswer). r .refusal) (askedOfRows wing bytes year) (RowsOfYear bytes year) EmptyPart
 
--- Of two sheets: all is asked of the one that is named.
+-- Of two sheets: all is asked of the one that is named, for the wing of its number.
 abbrev pub PromisedNamed : ℕ → List ℕ → List ℕ → ℕ → RowsAnswer → Type 0
-PromisedNamed named one two year =
-    let bytes = namedSheet named one two in
-    Promised (λ (r : RowsAnswer). r .refusal) (IsWing named else 15 ∷ askedOfRows bytes year) (RowsOfYear bytes year) EmptyPart
+PromisedNamed named one two = PromisedRows named (namedSheet named one two)
 
 -- The header counts row k, from 0 on, and its six bytes are there; what they tell; and that there is no more.
 abbrev pub RowThere : List ℕ → ℕ → Type 0
@@ -96,30 +111,30 @@ unfoldable pub afterCalls : Walker → ℕ → Walker
 afterCalls walker zero = walker
 afterCalls walker (suc n) = movedOn (afterCalls walker n)
 
--- A walk from where it begins: each row that the header counts, in turn, then no more for ever. Begun on bytes that are
--- refused it has ended already, if they are no more than memory can hold.
-pub record WalkOf (bytes : List ℕ) : Type 0 where
-  pub refusal : begunAt bytes .refusal ≡ loadedRefusal bytes
-  pub rows : loadedRefusal bytes ≡ 0 → (n : ℕ) → n < numberAt bytes 4 4 → RowTold bytes n (handedOut bytes (begunAt bytes .row) n)
-  pub no-more : loadedRefusal bytes ≡ 0 → (n : ℕ) → numberAt bytes 4 4 ≤ n → NoMore (handedOut bytes (begunAt bytes .row) n)
-  pub ended : (¬ (loadedRefusal bytes ≡ 0)) → length bytes ≤ 18446744073709551615 → (n : ℕ) → NoMore (handedOut bytes (begunAt bytes .row) n)
+-- A walk of a wing's sheet from where it begins: each row that the header counts, in turn, then no more for ever. Begun on
+-- bytes that are refused it has ended already, if they are no more than memory can hold.
+pub record WalkOf (wing : ℕ) (bytes : List ℕ) : Type 0 where
+  pub refusal : begunAt wing bytes .refusal ≡ loadedRefusal wing bytes
+  pub rows : loadedRefusal wing bytes ≡ 0 → (n : ℕ) → n < numberAt bytes 4 4 → RowTold bytes n (handedOut bytes (begunAt wing bytes .row) n)
+  pub no-more : loadedRefusal wing bytes ≡ 0 → (n : ℕ) → numberAt bytes 4 4 ≤ n → NoMore (handedOut bytes (begunAt wing bytes .row) n)
+  pub ended : (¬ (loadedRefusal wing bytes ≡ 0)) → length bytes ≤ 18446744073709551615 → (n : ℕ) → NoMore (handedOut bytes (begunAt wing bytes .row) n)
 
 -- The numbers of a row; those that the first n calls of a walk hand out; those of the rows in a part.
 abbrev pub rowNumbers : Row → List ℕ
 rowNumbers r = r .first ∷ r .length ∷ r .wing ∷ []
 
-abbrev pub rowsWalked : List ℕ → ℕ → List ℕ
-rowsWalked bytes n = joined (λ k. rowNumbers (handedOut bytes (begunAt bytes .row) k)) n
+abbrev pub rowsWalked : ℕ → List ℕ → ℕ → List ℕ
+rowsWalked wing bytes n = joined (λ k. rowNumbers (handedOut bytes (begunAt wing bytes .row) k)) n
 
 abbrev pub rowsInPart : List ℕ → List ℕ
 rowsInPart part = joined (λ k. numberAt part (6 * k) 4 ∷ numberAt part (6 * k + 4) 1 ∷ numberAt part (6 * k + 5) 1 ∷ []) (length part / 6)
 
 -- The part that is shown for the sheet's year i, counted from 0. Put together, the rows by year are the rows walked.
-abbrev pub yearPart : List ℕ → ℕ → List ℕ
-yearPart bytes i = rowsOf bytes (rowsAnswer bytes (numberAt bytes 2 2 + i))
+abbrev pub yearPart : ℕ → List ℕ → ℕ → List ℕ
+yearPart wing bytes i = rowsOf bytes (rowsAnswer wing bytes (numberAt bytes 2 2 + i))
 
-abbrev pub Together : List ℕ → Type 0
-Together bytes = joined (λ i. rowsInPart (yearPart bytes i)) (numberAt bytes 0 2) ≡ rowsWalked bytes (numberAt bytes 4 4)
+abbrev pub Together : ℕ → List ℕ → Type 0
+Together wing bytes = joined (λ i. rowsInPart (yearPart wing bytes i)) (numberAt bytes 0 2) ≡ rowsWalked wing bytes (numberAt bytes 4 4)
 
 -- A year's stretches, each with its wing.
 abbrev pub withWing : ℕ → List ℕ → List ℕ
@@ -128,7 +143,7 @@ withWing wing list = joined (λ k. getD list (2 * k) 0 ∷ getD list (2 * k + 1)
 -- The bytes are accepted for a sheet and yield what a writer has written for so many years, from year h on: by year, and by
 -- walking from the first row to the last.
 pub record Yields (wing h years : ℕ) (bytes : List ℕ) : Type 0 where
-  pub accepted : loadedRefusal bytes ≡ 0
-  pub by-year : (i : ℕ) → i < years → (rowsAnswer bytes (h + i) .refusal ≡ 0) × (rowsOf bytes (rowsAnswer bytes (h + i)) ≡ yearRows wing (h + i))
+  pub accepted : loadedRefusal wing bytes ≡ 0
+  pub by-year : (i : ℕ) → i < years → (rowsAnswer wing bytes (h + i) .refusal ≡ 0) × (rowsOf bytes (rowsAnswer wing bytes (h + i)) ≡ yearRows wing (h + i))
   pub counted : numberAt bytes 4 4 ≡ rowsBefore wing h years
-  pub walked : rowsWalked bytes (rowsBefore wing h years) ≡ joined (λ i. withWing wing (stretchRows (tableOf wing) (h + i))) years
+  pub walked : rowsWalked wing bytes (rowsBefore wing h years) ≡ joined (λ i. withWing wing (stretchRows (tableOf wing) (h + i))) years

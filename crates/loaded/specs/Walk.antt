@@ -42,12 +42,12 @@ stepAt bytes k = record { row = rowGiven bytes k; next = rowAfter bytes k }
 abbrev pub endedRow : ℕ
 endedRow = 18446744073709551615
 
-unfoldable pub begunAt : List ℕ → Begun
-begunAt bytes = ofLoaded bytes (λ n. record { refusal = n; row = endedRow }) (record { refusal = 0; row = 0 })
+unfoldable pub begunAt : ℕ → List ℕ → Begun
+begunAt wing bytes = ofLoaded wing bytes (λ n. record { refusal = n; row = endedRow }) (record { refusal = 0; row = 0 })
 
 -- A walker keeps the lent sheet and its place.
-abbrev pub begunOn : RefT (List ℕ) → Walker
-begunOn sheet = record { sheet = sheet; row = begunAt (now sheet) .row }
+abbrev pub begunOn : ℕ → RefT (List ℕ) → Walker
+begunOn wing sheet = record { sheet = sheet; row = begunAt wing (now sheet) .row }
 
 abbrev pub movedOn : Walker → Walker
 movedOn w = record { sheet = w .sheet; row = rowAfter (now (w .sheet)) (w .row) }

@@ -1,4 +1,4 @@
-// Are the bytes accepted for a sheet?
+// Are the bytes accepted for a wing's sheet?
 ghost use mathlib.Core.Path.{_≡_};
 ghost use mathlib.Core.Bool.{_&&_};
 ghost use Prim.Native.Nat.{_≤_};
@@ -43,11 +43,15 @@ fn all_placed(sheet: &[u8], years: u64) -> bool
     index_placed(sheet, years, rows)
 }
 
-// Why the bytes are not accepted for a sheet, or 0. Refusal 16: fewer than 16 bytes. 17: a count of years, a first or a last
-// year that no writer puts on a sheet. 18: header, index and size do not fit each other.
-pub fn sheet_refusal(sheet: &[u8]) -> u64
-    ensures { λ r. ⌜ r ≡ loadedRefusal (now (sheet .entry)) ⌝ }
+// Why the bytes are not accepted for a sheet of the wing, or 0. Refusal 15: a wing that is neither 1 nor 2. 16: fewer than 16
+// bytes. 17: a count of years, a first or a last year that no writer puts on a sheet. 18: header, index and size do not fit
+// each other. 19: rows, wing byte or year lengths differ from the calendar's.
+pub fn sheet_refusal(wing: u64, sheet: &[u8]) -> u64
+    ensures { λ r. ⌜ r ≡ loadedRefusal wing (now (sheet .entry)) ⌝ }
 {
+    if rest::out_of_wings(wing) {
+        return 15;
+    }
     if sheet.len() < 16 {
         return 16;
     }
@@ -55,11 +59,15 @@ pub fn sheet_refusal(sheet: &[u8]) -> u64
     if (years < 1) | (sheet::MOST_YEARS < years) {
         return 17;
     }
-    if sheet::ends_outside(layout::two_at(sheet, 2), years) {
+    let first_year = layout::two_at(sheet, 2);
+    if sheet::ends_outside(first_year, years) {
         return 17;
     }
     if !all_placed(sheet, years) {
         return 18;
+    }
+    if !content::content_agrees(wing, sheet, first_year, years) {
+        return 19;
     }
     0
 }

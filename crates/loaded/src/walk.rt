@@ -67,12 +67,12 @@ pub fn step_at(sheet: &[u8], row: u64) -> Stepped
     }
 }
 
-// A step: where a walk through a sheet begins. On bytes that are not accepted, refusals 16, 17 and 18, it has ended
+// A step: where a walk through a wing's sheet begins. On bytes that are not accepted, refusals 15 to 19, it has ended
 // already.
-pub fn first_row(sheet: &[u8]) -> Begun
-    ensures { λ r. ⌜ r ≡ begunAt (now (sheet .entry)) ⌝ }
+pub fn first_row(wing: u64, sheet: &[u8]) -> Begun
+    ensures { λ r. ⌜ r ≡ begunAt wing (now (sheet .entry)) ⌝ }
 {
-    let refusal = sheet_refusal(sheet);
+    let refusal = sheet_refusal(wing, sheet);
     if refusal != 0 {
         return Begun {
             refusal,
@@ -89,10 +89,10 @@ pub struct Walker<'a> {
 }
 
 // A walk from the sheet's first row on, with the refusal number, as of `first_row`.
-pub fn begin<'a>(sheet: &'a [u8], refusal: &mut u64) -> Walker<'a>
-    ensures { λ w. ⌜ (w ≡ begunOn (sheet .entry)) × (now (refusal .exit) ≡ begunAt (now (sheet .entry)) .refusal) ⌝ }
+pub fn begin<'a>(wing: u64, sheet: &'a [u8], refusal: &mut u64) -> Walker<'a>
+    ensures { λ w. ⌜ (w ≡ begunOn wing (sheet .entry)) × (now (refusal .exit) ≡ begunAt wing (now (sheet .entry)) .refusal) ⌝ }
 {
-    let b = first_row(sheet);
+    let b = first_row(wing, sheet);
     *refusal = b.refusal;
     Walker { sheet, row: b.row }
 }

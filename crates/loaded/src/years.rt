@@ -22,12 +22,12 @@ fn no_rows(refusal: u64) -> RowsAnswer
     }
 }
 
-// The place of a year's rows in a sheet. Refusals 16, 17 and 18 for bytes that are not accepted; 1 for a year that is not on
+// The place of a year's rows in a wing's sheet. Refusals 15 to 19 for bytes that are not accepted; 1 for a year that is not on
 // the sheet.
-pub fn rows_place(sheet: &[u8], year: u64) -> RowsAnswer
-    ensures { λ r. ⌜ r ≡ rowsAnswer (now (sheet .entry)) year ⌝ }
+pub fn rows_place(wing: u64, sheet: &[u8], year: u64) -> RowsAnswer
+    ensures { λ r. ⌜ r ≡ rowsAnswer wing (now (sheet .entry)) year ⌝ }
 {
-    let refusal = sheet_refusal(sheet);
+    let refusal = sheet_refusal(wing, sheet);
     if refusal != 0 {
         return no_rows(refusal);
     }
@@ -44,31 +44,28 @@ pub fn rows_place(sheet: &[u8], year: u64) -> RowsAnswer
 }
 
 // A year's rows, still inside the sheet; an empty part of it where the number, as of `rows_place`, is not 0.
-pub fn sheet_rows<'a>(sheet: &'a [u8], year: u64, refusal: &mut u64) -> &'a [u8]
-    ensures { λ r. ⌜ (now r ≡ rowsOf (now (sheet .entry)) (rowsAnswer (now (sheet .entry)) year))
-        × (now (refusal .exit) ≡ rowsAnswer (now (sheet .entry)) year .refusal)
+pub fn sheet_rows<'a>(wing: u64, sheet: &'a [u8], year: u64, refusal: &mut u64) -> &'a [u8]
+    ensures { λ r. ⌜ (now r ≡ rowsOf (now (sheet .entry)) (rowsAnswer wing (now (sheet .entry)) year))
+        × (now (refusal .exit) ≡ rowsAnswer wing (now (sheet .entry)) year .refusal)
         × (r .ptr .0 ≡ sheet .entry .ptr .0)
-        × (r .ptr .1 ≡ sheet .entry .ptr .1 + rowsAnswer (now (sheet .entry)) year .offset) ⌝ }
+        × (r .ptr .1 ≡ sheet .entry .ptr .1 + rowsAnswer wing (now (sheet .entry)) year .offset) ⌝ }
 {
-    let place = rows_place(sheet, year);
+    let place = rows_place(wing, sheet, year);
     *refusal = place.refusal;
     let start = place.offset as usize;
     let end = start + place.length as usize;
     &sheet[start..end]
 }
 
-// The same of two sheets, by the number of the one that is named: 1 or 2, as the wings that they are for. Refusal 15, before
-// all others, for any other number. The sheet that is not named is not looked at.
+// The same of two sheets, wing 1's and wing 2's, by the number of the one that is named, which names the wing too. Refusal 15,
+// before all others, for a number that is neither 1 nor 2. The sheet that is not named is not looked at.
 pub fn sheets_place(named: u64, sheet_1: &[u8], sheet_2: &[u8], year: u64) -> RowsAnswer
     ensures { λ r. ⌜ r ≡ namedAnswer named (now («sheet_1» .entry)) (now («sheet_2» .entry)) year ⌝ }
 {
-    if rest::out_of_wings(named) {
-        return no_rows(15);
-    }
     if named == 2 {
-        return rows_place(sheet_2, year);
+        return rows_place(named, sheet_2, year);
     }
-    rows_place(sheet_1, year)
+    rows_place(named, sheet_1, year)
 }
 
 // A year's rows, still inside the sheet that is named; an empty part where the number, as of `sheets_place`, is not 0.
@@ -84,12 +81,8 @@ pub fn sheets_rows<'a>(
         × (r .ptr .0 ≡ namedSheet named («sheet_1» .entry .ptr .0) («sheet_2» .entry .ptr .0))
         × (r .ptr .1 ≡ namedSheet named («sheet_1» .entry .ptr .1) («sheet_2» .entry .ptr .1) + namedAnswer named (now («sheet_1» .entry)) (now («sheet_2» .entry)) year .offset) ⌝ }
 {
-    if rest::out_of_wings(named) {
-        *refusal = 15;
-        return &sheet_1[..0];
-    }
     if named == 2 {
-        return sheet_rows(sheet_2, year, refusal);
+        return sheet_rows(named, sheet_2, year, refusal);
     }
-    sheet_rows(sheet_1, year, refusal)
+    sheet_rows(named, sheet_1, year, refusal)
 }

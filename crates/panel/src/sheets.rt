@@ -18,10 +18,10 @@ pub extern "C" fn bd_sheet_write(
 
 // A loaded sheet, as its bytes lie in the caller's memory: where a year's rows stand in it.
 #[no_mangle]
-pub extern "C" fn bd_sheet_rows(sheet: &[u8], year: u64) -> loaded::RowsAnswer
-    ensures { λ r. ⌜ r ≡ rowsAnswer (now (sheet .entry)) year ⌝ }
+pub extern "C" fn bd_sheet_rows(wing: u64, sheet: &[u8], year: u64) -> loaded::RowsAnswer
+    ensures { λ r. ⌜ r ≡ rowsAnswer wing (now (sheet .entry)) year ⌝ }
 {
-    loaded::rows_place(sheet, year)
+    loaded::rows_place(wing, sheet, year)
 }
 
 #[no_mangle]
@@ -38,10 +38,10 @@ pub extern "C" fn bd_sheets_rows(
 
 // The caller holds the walker, whose state is the number of the row that comes next, and lends the sheet at each call.
 #[no_mangle]
-pub extern "C" fn bd_walk_begin(walker: &mut u64, sheet: &[u8]) -> u64
-    ensures { λ n. ⌜ (n ≡ begunAt (now (sheet .entry)) .refusal) × (now (walker .exit) ≡ begunAt (now (sheet .entry)) .row) ⌝ }
+pub extern "C" fn bd_walk_begin(walker: &mut u64, wing: u64, sheet: &[u8]) -> u64
+    ensures { λ n. ⌜ (n ≡ begunAt wing (now (sheet .entry)) .refusal) × (now (walker .exit) ≡ begunAt wing (now (sheet .entry)) .row) ⌝ }
 {
-    let b = loaded::first_row(sheet);
+    let b = loaded::first_row(wing, sheet);
     *walker = b.row;
     b.refusal
 }

@@ -20,7 +20,7 @@ use Rattle.rest.specs.Promises.{restCount}
 use Rattle.rest.specs.declared.ListAnswer.{ListAnswer}
 
 -- A wing that is neither 1 nor 2 is caught.
-wings : (wing : ℕ) → Catches (outOfWings wing) (IsWing wing)
+pub wings : (wing : ℕ) → Catches (outOfWings wing) (IsWing wing)
 wings wing =
     record {
       passes = λ e. let w = within 1 2 wing e in by-cases (ℕ-discrete wing 1) (λ q. inl q) (λ q. inr (omega arith));

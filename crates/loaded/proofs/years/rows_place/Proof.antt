@@ -13,18 +13,18 @@ use Rattle.loaded.proofs.years.rows_place.Statement.{statement}
 use Rattle.loaded.proofs.years.rows_place.Tie as tie
 
 -- The bytes are accepted, and what is so then.
-good : (c : tie.Else1) → loadedRefusal (c .before .before .before .args .sheet .now) ≡ 0
+good : (c : tie.Else1) → let a = c .before .before .before .args in loadedRefusal (a .wing) (a .sheet .now) ≡ 0
 good c = sym (c .before .sheet-refusal .ensures) ∙ c .if1 .left
 
 is-sheet : (c : tie.Else1) → let bytes = c .before .before .before .args .sheet .now in (16 ≤ length bytes) × (WritersYears bytes × Placed bytes)
-is-sheet c = accepted (c .before .before .before .args .sheet .now) (good c)
+is-sheet c = let a = c .before .before .before .args in let m = accepted (a .wing) (a .sheet .now) (good c) in (m .0, (m .1 .0, m .1 .1 .0))
 
 returns : tie.Need-returns
 returns c =
     let t = c .before in
     let f = t .before in
     let a = f .before .before .args in
-    c .no-rows .ensures ∙ rw (f .sheet-refusal .ensures) (sym (rows-refused (a .sheet .now) (a .year) (λ z. t .if1 .taken (f .sheet-refusal .ensures ∙ z))))
+    c .no-rows .ensures ∙ rw (f .sheet-refusal .ensures) (sym (rows-refused (a .wing) (a .sheet .now) (a .year) (λ z. t .if1 .taken (f .sheet-refusal .ensures ∙ z))))
 
 returns-2 : tie.Need-returns-2
 returns-2 c =
@@ -33,7 +33,7 @@ returns-2 c =
     let e = y .before .before in
     let a = e .before .before .before .args in
     let off = rw (y .before .two-at .ensures .0, y .two-at2 .ensures .0) at (t .if2 .taken) in
-    c .no-rows2 .ensures ∙ sym (rows-of-sheet (a .sheet .now) (a .year) (good e) ∙ rw off)
+    c .no-rows2 .ensures ∙ sym (rows-of-sheet (a .wing) (a .sheet .now) (a .year) (good e) ∙ rw off)
 
 -- The year is on the sheet, and its entry within.
 on-sheet : (c : tie.Else2) → let a = c .before .before .before .before .before .before .args in (c .before .before .two-at .result ≤ a .year) × (24 + 8 * (a .year - c .before .before .two-at .result) ≤ length (a .sheet .now))
@@ -54,7 +54,7 @@ returns-3 c =
     let e = y .before .before in
     let a = e .before .before .before .args in
     let on = rw (f, y .two-at2 .ensures .0) at (t .if2 .left) in
-    rw (rows-of-sheet (a .sheet .now) (a .year) (good e), on, c .before .four-at .ensures .0, c .two-at3 .ensures .0, f)
+    rw (rows-of-sheet (a .wing) (a .sheet .now) (a .year) (good e), on, c .before .four-at .ensures .0, c .two-at3 .ensures .0, f)
 
 pub rows-place-spec : {M : Type 1} → statement M
 rows-place-spec =

@@ -9,7 +9,7 @@ use Rattle.loaded.proofs.years.sheet_rows.Tie as tie
 
 -- The part lies within the sheet.
 inside : (c : tie.After-rows-place) → c .rows-place .result .offset + c .rows-place .result .length ≤ length (c .before .before .args .sheet .now)
-inside c = let a = c .before .before .args in rw (c .rows-place .ensures) (within-sheet (a .sheet .now) (a .year))
+inside c = let a = c .before .before .args in rw (c .rows-place .ensures) (within-sheet (a .wing) (a .sheet .now) (a .year))
 
 add-end : tie.Need-add-end
 add-end c = let p = inside c in record { fits = omega arith }
