@@ -55,6 +55,15 @@ returns-4 c =
     let outside-told = rw (s .two-at2 .ensures .0, t .before .two-at .ensures .0, c .if4 .taken) at (sym (e .ends-outside .ensures)) in
     rw (winged (t .before .before .before), long (t .before .before), few t, outside-told)
 
+-- The content is compared for the years that the header tells.
+compared :
+    (c : tie.After-content-agrees) →
+    let a = c .before .before .before .before .before .before .before .before .before .before .before .before .args in
+    differs (a .wing) (a .sheet .now) ≡ not (c .content-agrees .result)
+compared c =
+    let s = c .before .before .before .before .before in
+    ap not (sym (rw (s .two-at2 .ensures .0, s .before .before .two-at .ensures .0) at (c .content-agrees .ensures)))
+
 -- All that is asked before the places are looked at.
 asked :
     (c : tie.Else4) →
@@ -72,15 +81,6 @@ placed-asked :
     let a = c .before .before .before .before .before .before .before .before .before .before .before .args in
     loadedRefusal (a .wing) (a .sheet .now) ≡ cond (differs (a .wing) (a .sheet .now)) 19 0
 placed-asked c = rw (asked (c .before .before), ← c .before .all-placed .ensures, c .if5 .left)
-
--- The content is compared for the years that the header tells.
-compared :
-    (c : tie.After-content-agrees) →
-    let a = c .before .before .before .before .before .before .before .before .before .before .before .before .args in
-    differs (a .wing) (a .sheet .now) ≡ not (c .content-agrees .result)
-compared c =
-    let s = c .before .before .before .before .before in
-    ap not (sym (rw (s .two-at2 .ensures .0, s .before .before .two-at .ensures .0) at (c .content-agrees .ensures)))
 
 returns-6 : tie.Need-returns-6
 returns-6 c = rw (placed-asked (c .before .before), compared (c .before), c .if6 .taken)
