@@ -15,9 +15,12 @@ fn wing(wing: u64) {
 
 fn main() {
     wing(1);
-    changes::rows(1, 372);
+    changes::rows(1, 5787, 1, 372, 1);
+    changes::rows(1, 5786, 3, 1054, 17);
     wing(2);
-    changes::rows(2, 366);
+    changes::rows(2, 5787, 1, 366, 1);
+    changes::rows(2, 5786, 3, 1042, 17);
     numbers::headers();
     numbers::indexes();
+    numbers::year_lengths();
 }

@@ -20,7 +20,7 @@ fn put(out: &mut [u8], from: usize, bytes: usize, number: u64)
 
 // The refusal, where the rows of a year stand, and how many bytes they are.
 fn asked(sheet: &[u8], year: u64) {
-    let place = loaded::rows_place(sheet, year);
+    let place = loaded::rows_place(1, sheet, year);
     named(b" ->", place.refusal);
     number(place.offset);
     number(place.length);
@@ -51,6 +51,8 @@ fn years() {
     header(101, 5787, 58, 16, 824);
     header(65535, 5787, 58, 16, 24);
     header(1, 0, 58, 16, 24);
+    header(1, 5786, 58, 16, 24);
+    header(1, 5788, 58, 16, 24);
     header(1, 9999, 58, 16, 24);
     header(1, 10_000, 58, 16, 24);
     header(100, 9900, 58, 16, 816);
@@ -100,15 +102,42 @@ fn index(offset_1: u64, rows_1: u64, offset_2: u64, rows_2: u64) {
     asked(sheet, 5788);
 }
 
-// As it was written; rows that are shared out otherwise still fit; a row too few and too many, an offset too small, the
-// years exchanged; the largest numbers; and a sum that is 113 in 16 bits.
+// As it was written; rows that are shared out otherwise fit, and are not the years' own; a row too few and too many, an
+// offset too small, the years exchanged; the largest numbers; and a sum that is 113 in 16 bits.
 pub fn indexes() {
     index(32, 58, 380, 55);
     index(32, 113, 710, 0);
+    index(32, 0, 32, 113);
+    index(32, 55, 362, 58);
+    index(32, 57, 374, 56);
     index(32, 57, 374, 55);
     index(32, 58, 380, 56);
     index(0, 58, 348, 55);
     index(32, 55, 380, 58);
     index(4_294_967_295, 65535, 4_294_967_295, 65535);
     index(32, 32826, 196988, 32823);
+}
+
+// The same sheet under an index of these year lengths.
+fn of_lengths(length_1: u64, length_2: u64) {
+    let mut buffer = [0u8; 710];
+    let sheet: &mut [u8] = &mut buffer;
+    sheet::sheet_write(1, 5787, 2, sheet);
+    put(sheet, 22, 2, length_1);
+    put(sheet, 30, 2, length_2);
+    named(b"year lengths", length_1);
+    number(length_2);
+    asked(sheet, 5788);
+}
+
+// As it was written; one day less and one more in each year; the years exchanged; the least and the largest numbers.
+pub fn year_lengths() {
+    of_lengths(385, 355);
+    of_lengths(384, 355);
+    of_lengths(386, 355);
+    of_lengths(385, 354);
+    of_lengths(385, 356);
+    of_lengths(355, 385);
+    of_lengths(0, 0);
+    of_lengths(65535, 65535);
 }

@@ -29,14 +29,14 @@ fn told(place: loaded::RowsAnswer, refusal: u64, part: &[u8]) {
     end();
 }
 
-// The rows of a year in a sheet.
-pub fn asked(sheet: &[u8], year: u64) {
+// The rows of a year in a wing's sheet.
+pub fn asked(wing: u64, sheet: &[u8], year: u64) {
     let mut refusal = 0;
-    let part = loaded::sheet_rows(sheet, year, &mut refusal);
-    told(loaded::rows_place(sheet, year), refusal, part);
+    let part = loaded::sheet_rows(wing, sheet, year, &mut refusal);
+    told(loaded::rows_place(wing, sheet, year), refusal, part);
 }
 
-// In the one of two sheets that a number names.
+// In the one of two sheets, wing 1's and wing 2's, that a number names.
 pub fn asked_of_two<'a>(number: u64, sheet_1: &'a [u8], sheet_2: &'a [u8], year: u64) {
     let mut refusal = 0;
     let part = loaded::sheets_rows(number, sheet_1, sheet_2, year, &mut refusal);

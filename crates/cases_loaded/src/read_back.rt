@@ -16,13 +16,13 @@ fn written(first_year: u64, years: u64, answer: rest::ListAnswer) {
 }
 
 // Each year of the sheet, the one before and the one after.
-fn by_year(sheet: &[u8], first_year: u64, years: u64)
+fn by_year(wing: u64, sheet: &[u8], first_year: u64, years: u64)
     requires { ⌜ ((1 ≤ «first_year») × («first_year» ≤ 9999)) × (years ≤ 100) ⌝ }
 {
     let mut year = first_year - 1;
     while year <= first_year + years {
         named(b"year", year);
-        asked(sheet, year);
+        asked(wing, sheet, year);
         year += 1;
     }
 }
@@ -39,19 +39,19 @@ pub fn small(wing: u64, first_year: u64, years: u64, size: usize)
         sheet::sheet_write(wing, first_year, years, sheet),
     );
     end();
-    by_year(sheet, first_year, years);
-    walks::listed(sheet, (size as u64 - 16 - 8 * years) / 6 + 3);
+    by_year(wing, sheet, first_year, years);
+    walks::listed(wing, sheet, (size as u64 - 16 - 8 * years) / 6 + 3);
 }
 
 // The first bytes of a sheet: what 5787 is answered with, and a walk.
-fn first_bytes(sheet: &[u8], size: usize) {
+fn first_bytes(wing: u64, sheet: &[u8], size: usize) {
     if sheet.len() < size {
         return;
     }
     let part = &sheet[..size];
     named(b"bytes", size as u64);
-    asked(part, 5787);
-    walks::listed(part, 2);
+    asked(wing, part, 5787);
+    walks::listed(wing, part, 2);
 }
 
 // The sheet of 5787 without its last byte, and with too few for a header.
@@ -62,8 +62,8 @@ pub fn cut_off(wing: u64, size: usize)
     let all: &mut [u8] = &mut buffer;
     let sheet = &mut all[..size];
     sheet::sheet_write(wing, 5787, 1, sheet);
-    first_bytes(sheet, size - 1);
-    first_bytes(sheet, 15);
+    first_bytes(wing, sheet, size - 1);
+    first_bytes(wing, sheet, 15);
 }
 
 // A hundred years: one number for the rows by year, and one for the rows walked.
@@ -78,7 +78,10 @@ pub fn hundred(wing: u64, first_year: u64, size: usize)
         100,
         sheet::sheet_write(wing, first_year, 100, sheet),
     );
-    named(b"; by year", walks::by_year(sheet, first_year, 100));
-    named(b", walked", walks::walked(sheet, (size as u64 - 816) / 6));
+    named(b"; by year", walks::by_year(wing, sheet, first_year, 100));
+    named(
+        b", walked",
+        walks::walked(wing, sheet, (size as u64 - 816) / 6),
+    );
     end();
 }

@@ -38,6 +38,7 @@ fn lent<'a>(one: &'a [u8], two: &'a [u8])
 {
     numbers(b"both\n", one, two);
     numbers(b"exchanged\n", two, one);
+    numbers(b"the first twice\n", one, one);
     first_cut_off(one, two, 709);
     numbers(b"no second\n", one, &two[..0]);
 }

@@ -15,8 +15,8 @@ fn handed_out(row: loaded::Row) {
 }
 
 // What refuses the walk, or 0, and what each of so many calls hands out.
-pub fn listed(sheet: &[u8], calls: u64) {
-    let begun = loaded::first_row(sheet);
+pub fn listed(wing: u64, sheet: &[u8], calls: u64) {
+    let begun = loaded::first_row(wing, sheet);
     named(b"walk ->", begun.refusal);
     end();
     let mut row = begun.row;
@@ -35,9 +35,9 @@ fn with_row(sum: u64, first: u64, length: u64, wing: u64) -> u64 {
 }
 
 // For what so many calls hand out.
-pub fn walked(sheet: &[u8], calls: u64) -> u64 {
+pub fn walked(wing: u64, sheet: &[u8], calls: u64) -> u64 {
     let mut sum = 0;
-    let mut row = loaded::first_row(sheet).row;
+    let mut row = loaded::first_row(wing, sheet).row;
     let mut i = 0;
     while i < calls {
         let step = loaded::step_at(sheet, row);
@@ -63,19 +63,19 @@ fn with_part(before: u64, part: &[u8]) -> u64 {
     sum
 }
 
-fn with_year(before: u64, sheet: &[u8], year: u64) -> u64 {
+fn with_year(before: u64, wing: u64, sheet: &[u8], year: u64) -> u64 {
     let mut refusal = 0;
-    with_part(before, loaded::sheet_rows(sheet, year, &mut refusal))
+    with_part(before, loaded::sheet_rows(wing, sheet, year, &mut refusal))
 }
 
 // For the rows of so many years, year after year.
-pub fn by_year(sheet: &[u8], first_year: u64, years: u64) -> u64
+pub fn by_year(wing: u64, sheet: &[u8], first_year: u64, years: u64) -> u64
     requires { ⌜ («first_year» ≤ 9999) × (years ≤ 100) ⌝ }
 {
     let mut sum = 0;
     let mut i = 0;
     while i < years {
-        sum = with_year(sum, sheet, first_year + i);
+        sum = with_year(sum, wing, sheet, first_year + i);
         i += 1;
     }
     sum

@@ -6,10 +6,10 @@ use Rattle.cases_changed.proofs.changes.all_refused.Statement.{statemen
 use Rattle.cases_changed.proofs.changes.all_refused.Tie as tie
 
 abbrev Inv-loop : tie.InvT-loop
-Inv-loop sheet₀ from to refusal count₀ at₀ sheet count at = (count ≤ 255 * at) × (length sheet ≡ length sheet₀)
+Inv-loop wing sheet₀ from to apart refusal count₀ at₀ sheet count at = (count ≤ 510 * at) × (length sheet ≡ length sheet₀)
 
 abbrev μ-loop : tie.MeasureT-loop
-μ-loop sheet₀ from to refusal count₀ at₀ sheet count at = to - at
+μ-loop wing sheet₀ from to apart refusal count₀ at₀ sheet count at = to - at
 
 pub all-refused-spec : {M : Type 1} → statement M
 all-refused-spec =

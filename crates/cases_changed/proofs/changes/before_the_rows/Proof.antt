@@ -6,10 +6,10 @@ use Rattle.cases_changed.proofs.changes.before_the_rows.Statement.{stat
 use Rattle.cases_changed.proofs.changes.before_the_rows.Tie as tie
 
 abbrev Inv-loop : tie.InvT-loop
-Inv-loop sheet₀ at₀ sheet at = length sheet ≡ length sheet₀
+Inv-loop wing sheet₀ to apart at₀ sheet at = length sheet ≡ length sheet₀
 
 abbrev μ-loop : tie.MeasureT-loop
-μ-loop sheet₀ at₀ sheet at = 24 - at
+μ-loop wing sheet₀ to apart at₀ sheet at = to - at
 
 pub before-the-rows-spec : {M : Type 1} → statement M
 before-the-rows-spec =
@@ -17,7 +17,6 @@ before-the-rows-spec =
     (tie.spec
     Inv-loop
     μ-loop
-    (search needs)
     (search needs)
     (search needs)
     (search needs)

@@ -6,10 +6,10 @@ use Rattle.cases_changed.proofs.changes.refused.Statement.{statement}
 use Rattle.cases_changed.proofs.changes.refused.Tie as tie
 
 abbrev Inv-loop : tie.InvT-loop
-Inv-loop sheet₀ at refusal count₀ i₀ sheet count i = (count ≤ i) × ((i ≤ 255) × (length sheet ≡ length sheet₀))
+Inv-loop wing sheet₀ at apart refusal count₀ turned₀ sheet count turned = (count ≤ turned) × ((turned ≤ 509) × (length sheet ≡ length sheet₀))
 
 abbrev μ-loop : tie.MeasureT-loop
-μ-loop sheet₀ at refusal count₀ i₀ sheet count i = 255 - i
+μ-loop wing sheet₀ at apart refusal count₀ turned₀ sheet count turned = 255 - turned
 
 pub refused-spec : {M : Type 1} → statement M
 refused-spec =

@@ -9,7 +9,17 @@ rows-spec =
     tie.close
     (tie.spec
     (search needs)
-    (λ c. sym (length-take-le _ _ (c .before .before .pre)))
+    (λ c. sym (length-take-le _ _ (c .before .before .pre .0 .1)))
+    (search needs)
+    (search needs)
+    (search needs)
+    (search needs)
+    (search needs)
+    (search needs)
+    (search needs)
+    (search needs)
+    (search needs)
+    (search needs)
     (search needs)
     (search needs)
     (search needs)

@@ -8,10 +8,10 @@ use Rattle.cases_changed.proofs.lengths.refused.Statement.{statement}
 use Rattle.cases_changed.proofs.lengths.refused.Tie as tie
 
 abbrev Inv-loop : tie.InvT-loop
-Inv-loop bytes refusal count₀ n₀ count n = (count ≤ n) × (n ≤ length bytes)
+Inv-loop wing bytes refusal count₀ n₀ count n = (count ≤ n) × (n ≤ length bytes)
 
 abbrev μ-loop : tie.MeasureT-loop
-μ-loop bytes refusal count₀ n₀ count n = length bytes - n
+μ-loop wing bytes refusal count₀ n₀ count n = length bytes - n
 
 pub refused-spec : {M : Type 1} → statement M
 refused-spec =

@@ -4,10 +4,10 @@ use Rattle.cases_loaded.proofs.read_back.by_year.Statement.{statement}
 use Rattle.cases_loaded.proofs.read_back.by_year.Tie as tie
 
 abbrev Inv-loop : tie.InvT-loop
-Inv-loop sheet first-year years year₀ t5 year = year ≤ first-year + years + 1
+Inv-loop wing sheet first-year years year₀ t6 year = year ≤ first-year + years + 1
 
 abbrev μ-loop : tie.MeasureT-loop
-μ-loop sheet first-year years year₀ t5 year = first-year + years + 1 - year
+μ-loop wing sheet first-year years year₀ t6 year = first-year + years + 1 - year
 
 pub by-year-spec : {M : Type 1} → statement M
 by-year-spec =

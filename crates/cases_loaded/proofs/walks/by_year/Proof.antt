@@ -4,10 +4,10 @@ use Rattle.cases_loaded.proofs.walks.by_year.Statement.{statement}
 use Rattle.cases_loaded.proofs.walks.by_year.Tie as tie
 
 abbrev Inv-loop : tie.InvT-loop
-Inv-loop sheet first-year years sum₀ i₀ sum i = i ≤ years
+Inv-loop wing sheet first-year years sum₀ i₀ sum i = i ≤ years
 
 abbrev μ-loop : tie.MeasureT-loop
-μ-loop sheet first-year years sum₀ i₀ sum i = years - i
+μ-loop wing sheet first-year years sum₀ i₀ sum i = years - i
 
 pub by-year-spec : {M : Type 1} → statement M
 by-year-spec =

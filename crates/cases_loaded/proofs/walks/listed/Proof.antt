@@ -4,10 +4,10 @@ use Rattle.cases_loaded.proofs.walks.listed.Statement.{statement}
 use Rattle.cases_loaded.proofs.walks.listed.Tie as tie
 
 abbrev Inv-loop : tie.InvT-loop
-Inv-loop sheet calls row₀ i₀ row i = i ≤ calls
+Inv-loop wing sheet calls row₀ i₀ row i = i ≤ calls
 
 abbrev μ-loop : tie.MeasureT-loop
-μ-loop sheet calls row₀ i₀ row i = calls - i
+μ-loop wing sheet calls row₀ i₀ row i = calls - i
 
 pub listed-spec : {M : Type 1} → statement M
 listed-spec =

@@ -4,10 +4,10 @@ use Rattle.cases_loaded.proofs.walks.walked.Statement.{statement}
 use Rattle.cases_loaded.proofs.walks.walked.Tie as tie
 
 abbrev Inv-loop : tie.InvT-loop
-Inv-loop sheet calls sum₀ row₀ i₀ sum row i = i ≤ calls
+Inv-loop wing sheet calls sum₀ row₀ i₀ sum row i = i ≤ calls
 
 abbrev μ-loop : tie.MeasureT-loop
-μ-loop sheet calls sum₀ row₀ i₀ sum row i = calls - i
+μ-loop wing sheet calls sum₀ row₀ i₀ sum row i = calls - i
 
 pub walked-spec : {M : Type 1} → statement M
 walked-spec =
