@@ -1,11 +1,10 @@
-// Sheets that were changed: cut off at every length, in every byte, and in the numbers of header and index.
+// Sheets that were changed: cut off at every length, and in every byte.
 use show::end;
 use show::named;
 
 mod changes;
 mod counts;
 mod lengths;
-mod numbers;
 
 fn wing(wing: u64) {
     named(b"wing", wing);
@@ -20,7 +19,4 @@ fn main() {
     wing(2);
     changes::rows(2, 5787, 1, 366, 1);
     changes::rows(2, 5786, 3, 1042, 17);
-    numbers::headers();
-    numbers::indexes();
-    numbers::year_lengths();
 }

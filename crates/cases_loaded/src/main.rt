@@ -1,9 +1,8 @@
-// Loaded sheets: read back by year and row by row, the one of two that is named, and those whose content differs.
+// Loaded sheets: read back by year and row by row, and the one of two that is named.
 use show::end;
 use show::named;
 
 mod answers;
-mod differs;
 mod read_back;
 mod two;
 mod walks;
@@ -16,8 +15,7 @@ fn wing_1() {
     read_back::hundred(1, 1, 34602);
     read_back::hundred(1, 5700, 34614);
     read_back::hundred(1, 9900, 34596);
-    read_back::cut_off(1, 372);
-    differs::rows(1, 2);
+    read_back::refused(1, 2, 372);
 }
 
 fn wing_2() {
@@ -28,8 +26,7 @@ fn wing_2() {
     read_back::hundred(2, 1, 34056);
     read_back::hundred(2, 5700, 34038);
     read_back::hundred(2, 9900, 34032);
-    read_back::cut_off(2, 366);
-    differs::rows(2, 1);
+    read_back::refused(2, 1, 366);
 }
 
 fn main() {

@@ -43,19 +43,20 @@ pub fn small(wing: u64, first_year: u64, years: u64, size: usize)
     walks::listed(wing, sheet, (size as u64 - 16 - 8 * years) / 6 + 3);
 }
 
-// The first bytes of a sheet: what 5787 is answered with, and a walk.
+// The first bytes of a sheet, for the wing that is named: what 5787 is answered with, and a walk.
 fn first_bytes(wing: u64, sheet: &[u8], size: usize) {
     if sheet.len() < size {
         return;
     }
     let part = &sheet[..size];
-    named(b"bytes", size as u64);
+    named(b"as wing", wing);
+    named(b", bytes", size as u64);
     asked(wing, part, 5787);
     walks::listed(wing, part, 2);
 }
 
-// The sheet of 5787 without its last byte, and with too few for a header.
-pub fn cut_off(wing: u64, size: usize)
+// The sheet of 5787 without its last byte, and with too few for a header; and all of it for the other wing, and for none.
+pub fn refused(wing: u64, other: u64, size: usize)
     requires { ⌜ (1 ≤ size) × (size ≤ 372) ⌝ }
 {
     let mut buffer = [0u8; 372];
@@ -64,6 +65,8 @@ pub fn cut_off(wing: u64, size: usize)
     sheet::sheet_write(wing, 5787, 1, sheet);
     first_bytes(wing, sheet, size - 1);
     first_bytes(wing, sheet, 15);
+    first_bytes(other, sheet, size);
+    first_bytes(3, sheet, size);
 }
 
 // A hundred years: one number for the rows by year, and one for the rows walked.

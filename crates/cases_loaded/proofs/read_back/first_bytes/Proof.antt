@@ -14,4 +14,6 @@ first-bytes-spec =
     (search needs)
     (search needs)
     (search needs)
+    (search needs)
+    (search needs)
     (search needs))

@@ -3,8 +3,8 @@ use mathlib.Core.Path.{_≡_}
 use Prim.Native.Nat.{_≤_, _-_}
 use native.Mathlib.Omega.{arith}
 use lib.ListN.{length, length-set}
-use Rattle.cases_changed.proofs.numbers.put.Statement.{statement}
-use Rattle.cases_changed.proofs.numbers.put.Tie as tie
+use Rattle.cases_content.proofs.numbers.put.Statement.{statement}
+use Rattle.cases_content.proofs.numbers.put.Tie as tie
 
 abbrev Inv-loop : tie.InvT-loop
 Inv-loop out₀ from bytes number left₀ i₀ out left i = (i ≤ bytes) × (length out ≡ length out₀)

@@ -2,8 +2,8 @@ use borrow.Author.Needs.{needs}
 use mathlib.Core.Path.{_≡_}
 use Prim.Native.Nat.{_-_}
 use lib.ListN.{length, length-set}
-use Rattle.cases_loaded.proofs.differs.put_rows.Statement.{statement}
-use Rattle.cases_loaded.proofs.differs.put_rows.Tie as tie
+use Rattle.cases_content.proofs.differs.put_rows.Statement.{statement}
+use Rattle.cases_content.proofs.differs.put_rows.Tie as tie
 
 abbrev Inv-loop : tie.InvT-loop
 Inv-loop out₀ sheet at₀ out at = length out ≡ length out₀

@@ -1,7 +1,7 @@
 // Headers and indexes of a writer's own and of the least and the largest numbers, over rows of wing 1.
 ghost use Prim.Native.Nat.{_≤_, _+_};
 ghost use lib.ListN.{length};
-use show::end;
+use crate::answers::asked;
 use show::named;
 use show::number;
 
@@ -16,15 +16,6 @@ fn put(out: &mut [u8], from: usize, bytes: usize, number: u64)
         left = left / 256;
         i += 1;
     }
-}
-
-// The refusal, where the rows of a year stand, and how many bytes they are.
-fn asked(sheet: &[u8], year: u64) {
-    let place = loaded::rows_place(1, sheet, year);
-    named(b" ->", place.refusal);
-    number(place.offset);
-    number(place.length);
-    end();
 }
 
 // The sheet of 5787, 58 rows, under a header of these numbers: years, first year, rows, the offsets of index and rows. It is
@@ -43,7 +34,7 @@ fn header(years: u64, first_year: u64, rows: u64, index: u64, rows_offset: u64) 
     number(rows);
     number(index);
     number(rows_offset);
-    asked(sheet, first_year);
+    asked(1, sheet, first_year);
 }
 
 fn years() {
@@ -99,7 +90,7 @@ fn index(offset_1: u64, rows_1: u64, offset_2: u64, rows_2: u64) {
     number(rows_1);
     number(offset_2);
     number(rows_2);
-    asked(sheet, 5788);
+    asked(1, sheet, 5788);
 }
 
 // As it was written; rows that are shared out otherwise fit, and are not the years' own; a row too few and too many, an
@@ -127,7 +118,7 @@ fn of_lengths(length_1: u64, length_2: u64) {
     put(sheet, 30, 2, length_2);
     named(b"year lengths", length_1);
     number(length_2);
-    asked(sheet, 5788);
+    asked(1, sheet, 5788);
 }
 
 // As it was written; one day less and one more in each year; the years exchanged; the least and the largest numbers.

@@ -3,9 +3,9 @@
 ghost use Prim.Native.Nat.{_≤_};
 ghost use lib.ListN.{length};
 use crate::answers::asked;
-use crate::walks;
 use show::end;
 use show::named;
+use show::number;
 use show::text;
 
 fn asked_as(wing: u64, sheet: &[u8], year: u64) {
@@ -14,11 +14,21 @@ fn asked_as(wing: u64, sheet: &[u8], year: u64) {
     asked(wing, sheet, year);
 }
 
+// What refuses a walk, or 0; whether its first call hands out a row, and that row's first day.
+fn walked(wing: u64, sheet: &[u8]) {
+    let begun = loaded::first_row(wing, sheet);
+    let row = loaded::step_at(sheet, begun.row).row;
+    named(b"walk ->", begun.refusal);
+    number(row.more);
+    number(row.first);
+    end();
+}
+
 // The sheet's own year, the year after it, which is not on it, and a walk.
 fn read_as(wing: u64, sheet: &[u8]) {
     asked_as(wing, sheet, 5788);
     asked_as(wing, sheet, 5789);
-    walks::listed(wing, sheet, 2);
+    walked(wing, sheet);
 }
 
 // As it was written, by each number that names a wing, and by numbers that name none.
