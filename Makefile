@@ -28,9 +28,10 @@ notice:
 sheet:
 	@tools/sheet "$${WING-}" "$${FIRST-}" "$${YEARS-}" "$${FILE-}"
 
-# The file to show. CC names another compiler, for x86-64 Linux.
+# The wing and the file to show; one that is missing is refused as an empty one is. CC names another compiler, for x86-64
+# Linux.
 sheet-show:
-	@examples/run sheet_show "$${FILE-}"
+	@examples/run sheet_show "$${WING-}" "$${FILE-}"
 
 # Without a WING, wing 1; without a DATE, today. CC names another compiler, for x86-64 Linux.
 panel:

@@ -2,11 +2,11 @@
  * A panel's sheet in words, to start from where one is loaded: its years, and under each year its rows, the stretches
  * through which the bank carries the load.
  *
- *     sheet_show panel.sheet
+ *     sheet_show 1 panel.sheet
  *
- * The sheet stays the bytes that were loaded. A year's rows are a part of them, which bd_sheet_rows tells; a walk hands
- * out one row after another. Both refuse what is no sheet, and neither compares the rows with the calendar: what is shown
- * is what the sheet says, and a day that is not in the calendar is shown by its number.
+ * The sheet stays the bytes that were loaded. A walk that is begun on it for a wing refuses whatever is not, byte for
+ * byte, that wing's sheet. So header and index can be believed from there on, and each day of a row has a date. A panel
+ * that wants the rows of one year asks bd_sheet_rows, which looks at the whole sheet each time.
  */
 #include <errno.h>
 #include <inttypes.h>
@@ -17,8 +17,8 @@
 #include <bournedrouth.h>
 #include <bournedrouth_names.h>
 
-/* The bytes of a header, of an index entry and of a row. */
-enum { HEADER = 16, ENTRY = 8, ROW = 6 };
+/* The bytes of a header and of an index entry. */
+enum { HEADER = 16, ENTRY = 8 };
 
 /* The number in so many bytes of a sheet, the lowest first. */
 static uint64_t number_at(const uint8_t *place, int bytes)
@@ -28,17 +28,24 @@ static uint64_t number_at(const uint8_t *place, int bytes)
     return number;
 }
 
+/* A number of up to 19 figures, which 64 bits hold; whether it is a wing is the library's to say. Other text is 0. */
+static uint64_t read_wing(const char *text)
+{
+    uint64_t wing = 0;
+    size_t figures = strspn(text, "0123456789");
+    if (figures > 19 || text[figures] != '\0') return 0;
+    while (*text != '\0') wing = 10 * wing + (uint64_t)(*text++ - '0');
+    return wing;
+}
+
 /* A day's Gregorian date and weekday, "2026-09-12 Saturday". */
 enum { DAY_TEXT = 60 };
 
 static void put_day(char text[DAY_TEXT], uint64_t day)
 {
     bd_civil_date date = bd_day_to_gregorian(day);
-    if (date.refusal == BD_DONE)
-        snprintf(text, DAY_TEXT, "%" PRId64 "-%02" PRIu64 "-%02" PRIu64 " %s", date.year, date.month, date.day,
-                 bd_weekday_name(bd_weekday(day).weekday));
-    else
-        snprintf(text, DAY_TEXT, "day %" PRIu64 " (not in the calendar)", day);
+    snprintf(text, DAY_TEXT, "%" PRId64 "-%02" PRIu64 "-%02" PRIu64 " %s", date.year, date.month, date.day,
+             bd_weekday_name(bd_weekday(day).weekday));
 }
 
 /* The first day and, where there are more, the last. */
@@ -51,51 +58,60 @@ static void show_row(bd_row row)
            row.length == 1 ? "day " : "days", row.wing);
 }
 
-static int refused(const char *file, uint64_t refusal)
+/* A walk that has begun goes through all rows, year after year. */
+static void show(bd_walker walker, const uint8_t *sheet, size_t length)
 {
-    fprintf(stderr, "sheet_show: %s: %s (refusal %" PRIu64 ")\n", file, bd_refusal_name(refusal), refusal);
-    return 1;
-}
-
-/* A walk goes through all rows, year after year; how many of them are a year's, the year's own part tells. */
-static int show(const char *file, const uint8_t *sheet, size_t length)
-{
-    bd_walker walker;
-    uint64_t refusal = bd_walk_begin(&walker, sheet, length);
-    if (refusal != BD_DONE) return refused(file, refusal);
-
-    uint64_t years = number_at(sheet, 2), first_year = number_at(sheet + 2, 2), rows = number_at(sheet + 4, 4);
-    printf("years %" PRIu64 " to %" PRIu64 ", %" PRIu64 " rows\n", first_year, first_year + years - 1, rows);
+    uint64_t years = number_at(sheet, 2), first_year = number_at(sheet + 2, 2), all_rows = number_at(sheet + 4, 4);
+    printf("years %" PRIu64 " to %" PRIu64 ", %" PRIu64 " rows\n", first_year, first_year + years - 1, all_rows);
     printf("a day begins at sunset the evening before its date\n");
     for (uint64_t i = 0; i < years; ++i) {
-        bd_rows_answer part = bd_sheet_rows(sheet, length, first_year + i);
-        if (part.refusal != BD_DONE) return refused(file, part.refusal);
-        uint64_t days = number_at(sheet + HEADER + ENTRY * i + 6, 2);
-        printf("%" PRIu64 ": %" PRIu64 " days, %" PRIu64 " rows\n", first_year + i, days, part.length / ROW);
-        for (uint64_t n = part.length / ROW; n > 0; --n) show_row(bd_walk_next(&walker, sheet, length));
+        const uint8_t *entry = sheet + HEADER + ENTRY * i;
+        uint64_t rows = number_at(entry + 4, 2), days = number_at(entry + 6, 2);
+        printf("%" PRIu64 ": %" PRIu64 " days, %" PRIu64 " rows\n", first_year + i, days, rows);
+        for (; rows > 0; --rows) show_row(bd_walk_next(&walker, sheet, length));
     }
-    return 0;
+}
+
+/* Says why; and where the sheet would be accepted for the other wing, that it is that one's. */
+static void refused(const char *wing, const char *file, const uint8_t *sheet, size_t length, uint64_t refusal)
+{
+    bd_walker walker;
+    uint64_t other = read_wing(wing) == BD_WING_1 ? BD_GUEST_WING : BD_WING_1;
+    if (refusal == BD_BAD_WING)
+        fprintf(stderr, "sheet_show: '%s' is refused: a wing is 1 or 2, in figures alone (refusal 15)\n", wing);
+    else
+        fprintf(stderr, "sheet_show: %s: %s (refusal %" PRIu64 ")\n", file, bd_refusal_name(refusal), refusal);
+    if (refusal == BD_BAD_SHEET_CONTENT && bd_walk_begin(&walker, other, sheet, length) == BD_DONE)
+        fprintf(stderr, "sheet_show: %s: it is the sheet of wing %" PRIu64 "\n", file, other);
 }
 
 int main(int argc, char **argv)
 {
     /* a byte more than any written sheet has: a longer file is cut here, and refused */
     static uint8_t sheet[BD_SHEET_ROOM + 1];
-    if (argc != 2 || *argv[1] == '\0') {
-        fprintf(stderr, "usage: sheet_show FILE\nFILE is a sheet that a panel loads, as make sheet writes it\n");
+    if (argc != 3 || *argv[2] == '\0') {
+        fprintf(stderr, "usage: sheet_show WING FILE\n"
+                        "WING is 1 or, for the guest wing, 2;\n"
+                        "FILE is that wing's sheet that a panel loads, as make sheet writes it\n");
         return 2;
     }
-    FILE *file = fopen(argv[1], "rb");
+    const char *wing = argv[1], *name = argv[2];
+    FILE *file = fopen(name, "rb");
     size_t length = file == NULL ? 0 : fread(sheet, 1, sizeof sheet, file);
     if (file == NULL || ferror(file)) {
-        fprintf(stderr, "sheet_show: %s: cannot be read: %s\n", argv[1], strerror(errno));
+        fprintf(stderr, "sheet_show: %s: cannot be read: %s\n", name, strerror(errno));
         return 1;
     }
     fclose(file);
-    int status = show(argv[1], sheet, length);
+    bd_walker walker;
+    uint64_t refusal = bd_walk_begin(&walker, read_wing(wing), sheet, length);
+    if (refusal == BD_DONE)
+        show(walker, sheet, length);
+    else
+        refused(wing, name, sheet, length, refusal);
     if (fflush(stdout) != 0) {
         fprintf(stderr, "sheet_show: cannot be printed: %s\n", strerror(errno));
         return 1;
     }
-    return status;
+    return refusal == BD_DONE ? 0 : 1;
 }

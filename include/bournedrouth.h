@@ -15,7 +15,8 @@
  *   - The evening. No call is told the time, and the hall's sunset is the panel's own: before it ask for the number of
  *     the civil day, from sunset on for the day after, that number plus 1. A panel that changes the day at midnight is
  *     hours late, with putting the bank on the load and with taking it off.
- *   - The wing. 1 and 2 are both good: a panel that names the other wing is told of the other wing's rest days.
+ *   - The wing. 1 and 2 are both good: a panel that names the other wing is told of the other wing's rest days. Only a
+ *     loaded sheet is refused where it is the other wing's.
  *   - A pointer must be valid and, if it is to numbers or to a walker, aligned for uint64_t; bytes may begin anywhere.
  *     Where the length given with it is 0 it may be NULL: it is proved that no entry and no byte is touched then, and
  *     seen in the archive's code and tested, for the lists of every year and for sheets, written and read, that no more
@@ -24,8 +25,8 @@
  *     what it writes, a walker too, and nobody changes a sheet that it reads. Several calls may read one sheet at once.
  *   - A walker goes with the sheet that it was begun on. One that bd_walk_begin did not make, or that is given other
  *     bytes, is safe and its walk ends, but its rows are then those of whatever bytes it is given.
- *   - A sheet that is read is held to the layout and not to the calendar: one that is accepted may be the other wing's,
- *     or an old one, or have any numbers in its rows.
+ *   - The years of a sheet. One that is accepted may be of years that are all past: asked for a year, a call refuses
+ *     one that is not on the sheet, but a walk hands out the rows that are.
  *   - Every number is passed as 64 bits. These declarations see to that. A number that was cut before it came here
  *     arrives as another number, and may be a good one.
  *   - Look at the refusal first. Of all refusals only BD_NO_STRETCH means that the bank is off the load; after any
@@ -43,9 +44,9 @@
  * Within a major version no call, struct, field, number or answer that stands here changes or goes, and a program that
  * was built with an earlier minor version builds and is answered as it was. A minor version adds.
  */
-#define BD_VERSION_MAJOR 4
-#define BD_VERSION_MINOR 2
-#define BD_VERSION "4.2"
+#define BD_VERSION_MAJOR 5
+#define BD_VERSION_MINOR 0
+#define BD_VERSION "5.0"
 
 #ifdef __cplusplus
 extern "C" {
@@ -53,8 +54,8 @@ extern "C" {
 
 /*
  * Why there is no answer. Where several apply, BD_BAD_WING comes before all others, then BD_BAD_YEAR_COUNT for a sheet
- * that is written, and for one that is read BD_SHEET_TOO_SHORT, BD_BAD_SHEET_YEARS and BD_BAD_SHEET_LAYOUT; else the
- * smallest is given. Each call below has its refusals in that order.
+ * that is written, and for one that is read BD_SHEET_TOO_SHORT, BD_BAD_SHEET_YEARS, BD_BAD_SHEET_LAYOUT and
+ * BD_BAD_SHEET_CONTENT; else the smallest is given. Each call below has its refusals in that order.
  */
 enum bd_refusal {
     BD_DONE = 0,                    /* there is an answer */
@@ -72,7 +73,8 @@ enum bd_refusal {
     BD_BAD_WING = 15,               /* wing or sheet named neither 1 nor 2 */
     BD_SHEET_TOO_SHORT = 16,        /* a loaded sheet of fewer than 16 bytes */
     BD_BAD_SHEET_YEARS = 17,        /* its count of years not 1..100, or its first or last year outside 1..9999 */
-    BD_BAD_SHEET_LAYOUT = 18        /* its offsets, counts of rows and length do not fit each other */
+    BD_BAD_SHEET_LAYOUT = 18,       /* its offsets, counts of rows and length do not fit each other */
+    BD_BAD_SHEET_CONTENT = 19       /* its rows or its years' lengths are not the calendar's for the wing named */
 };
 
 /* The range of day numbers: 1 Tishri 1 and 29 Elul 9999. */
@@ -369,17 +371,22 @@ bd_list_answer bd_stretches(uint64_t wing, uint64_t year, uint64_t *out, size_t 
 bd_list_answer bd_sheet_write(uint64_t wing, uint64_t first_year, uint64_t years, uint8_t *out, size_t length);
 
 /*
- * A loaded sheet is bytes in the caller's memory, of which nothing is known. So every call that can refuse it looks at
- * header, index and length first. What bd_sheet_write wrote, with the length that it told, is accepted; refused is, in
- * this order,
+ * A loaded sheet is bytes in the caller's memory, of which nothing is known. So every call that can refuse it is told
+ * the wing that it must be of, and looks at all of it first. Accepted is what bd_sheet_write writes for that wing and
+ * the years that the header tells, byte for byte and with no byte more; refused is, in this order,
  *
+ *     15  a wing that is neither 1 nor 2, whatever the sheet is
  *     16  a sheet of fewer than 16 bytes
  *     17  a count of years that is not 1..100; a first or a last year, first + count - 1, outside 1..9999
  *     18  an offset of the index that is not 16, or of the rows that is not 16 + 8 x years; a count of rows that is not
  *         the sum of the index's counts; an offset in the index that is not the rows' offset plus 6 for each row of the
  *         years before; a length that is not 16 + 8 x years + 6 x rows
+ *     19  a year's length, a count of its rows, or a first day, a length or a wing in one of them, that is not the
+ *         calendar's for the wing
  *
- * Neither the rows nor the lengths of the years are compared with the calendar.
+ * Whichever year is asked, the whole sheet is compared with the calendar, which takes about two million instructions
+ * for 100 years. No second sheet is written for it: such a call keeps 120 entries of its own, 960 bytes, on the stack,
+ * for a year's stretches at a time.
  */
 
 /* Where a year's rows stand, 6 bytes each: inside the caller's sheet, of which nothing is copied. */
@@ -389,26 +396,28 @@ typedef struct bd_rows_answer {
     uint64_t length; /* how many bytes its rows have */
 } bd_rows_answer;
 
-/* The rows of a year of a sheet. Refusals: 16, 17, 18, 1 if the year is not on the sheet. */
-bd_rows_answer bd_sheet_rows(const uint8_t *sheet, size_t length, uint64_t year);
+/* The rows of a year of a wing's sheet. Refusals: 15, 16, 17, 18, 19, 1 if the year is not on the sheet. */
+bd_rows_answer bd_sheet_rows(uint64_t wing, const uint8_t *sheet, size_t length, uint64_t year);
 
 /*
- * The same of the one of two sheets that is named, 1 or 2, for a room that serves both wings. Refusals: 15 if neither
- * is named, then 16, 17, 18, 1 for the sheet named. The other sheet is not looked at, and may be NULL and 0.
+ * The same of the one of two sheets that is named, for a room that serves both wings: sheet 1 is wing 1's and sheet 2
+ * is wing 2's, so that naming the sheet names the wing. Refusals: 15 if neither is named, then 16, 17, 18, 19, 1 for
+ * the sheet named. The other sheet is not looked at, and may be NULL and 0.
  */
 bd_rows_answer bd_sheets_rows(uint64_t named, const uint8_t *sheet_1, size_t length_1, const uint8_t *sheet_2,
                               size_t length_2, uint64_t year);
 
 /*
- * A walk hands out the rows of a sheet, one after another. The caller holds the walker and gives the sheet each time:
+ * A walk hands out the rows of a wing's sheet, one after another. The caller holds the walker, and gives the sheet each
+ * time:
  *
  *     bd_walker walker;
  *     bd_row row;
- *     if (bd_walk_begin(&walker, sheet, length) != BD_DONE) return;  // or say why
+ *     if (bd_walk_begin(&walker, BD_WING_1, sheet, length) != BD_DONE) return;  // or say why
  *     while ((row = bd_walk_next(&walker, sheet, length)).more) show(row.first, row.length, row.wing);
  */
 typedef struct bd_walker {
-    uint64_t row; /* the number of the row that comes next, counted from 0; on a refused sheet UINT64_MAX */
+    uint64_t row; /* the number of the row that comes next, counted from 0; of a refused walk UINT64_MAX */
 } bd_walker;
 
 typedef struct bd_row {
@@ -418,10 +427,16 @@ typedef struct bd_row {
     uint64_t wing;
 } bd_row;
 
-/* Begins a walk with the sheet's first row. Refusals, told as the number alone: 16, 17, 18; the walk has then ended. */
-uint64_t bd_walk_begin(bd_walker *walker, const uint8_t *sheet, size_t length);
+/*
+ * Begins a walk with the first row of a wing's sheet. Refusals, told as the number alone: 15, 16, 17, 18, 19; the walk
+ * has then ended.
+ */
+uint64_t bd_walk_begin(bd_walker *walker, uint64_t wing, const uint8_t *sheet, size_t length);
 
-/* The next row, after which the walker stands one row further; behind the last row "no more", for ever. No refusals. */
+/*
+ * The next row, after which the walker stands one row further; behind the last row "no more", for ever. No refusals:
+ * the sheet was compared with the calendar when the walk began, and is not compared again.
+ */
 bd_row bd_walk_next(bd_walker *walker, const uint8_t *sheet, size_t length);
 
 #ifdef __cplusplus

@@ -64,6 +64,7 @@ static inline const char *bd_refusal_name(uint64_t refusal)
         "the sheet has fewer than 16 bytes",
         "the sheet's years are not 1 to 100 of the years 1 to 9999",
         "the sheet's header, index and size do not fit each other",
+        "the sheet's rows or its years' lengths are not the calendar's for the wing named",
     };
     return bd_name_at(names, sizeof names / sizeof *names, refusal);
 }

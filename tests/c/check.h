@@ -36,6 +36,8 @@ void every_day(void);
 void sheets(void);
 void loaded(void);
 void no_sheets(void);
+void content(void);
+void refusal_order(void);
 void changed(void);
 
 #endif

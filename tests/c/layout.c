@@ -112,12 +112,14 @@ static void sheet_structs(void)
     asking("bd_sheet_write(BD_GUEST_WING, 5774, 2, sheet, %zu)", sizeof sheet);
     same("count", bd_sheet_write(BD_GUEST_WING, 5774, 2, sheet, sizeof sheet).count, sizeof sheet);
 
-    placed(raw_sheet_rows(fresh(), sheet, sizeof sheet, 5775));
+    placed(raw_sheet_rows(fresh(), BD_GUEST_WING, sheet, sizeof sheet, 5775));
     WORDS(bd_rows_answer, 0, 380, 306);
     placed(raw_sheets_rows(fresh(), 2, NULL, 0, sheet, sizeof sheet, 5775));
     WORDS(bd_rows_answer, 0, 380, 306);
-    placed(raw_sheets_rows(fresh(), 1, sheet, sizeof sheet, NULL, 0, 5776));
+    placed(raw_sheets_rows(fresh(), 2, NULL, 0, sheet, sizeof sheet, 5776));
     WORDS(bd_rows_answer, 1, 0, 0);
+    placed(raw_sheets_rows(fresh(), 1, sheet, sizeof sheet, NULL, 0, 5775));
+    WORDS(bd_rows_answer, 19, 0, 0);
     AT(bd_rows_answer, offset, 1), AT(bd_rows_answer, length, 2);
 
     placed(raw_walk_next(fresh(), &walker, sheet, sizeof sheet));
@@ -128,11 +130,11 @@ static void sheet_structs(void)
     same("row of the walker", walker, 59);
 
     uint64_t answer[4];
-    same("refusal of a sheet", raw_walk_begin(fresh(), sheet, sizeof sheet), 0);
+    same("refusal of a sheet", raw_walk_begin(fresh(), BD_GUEST_WING, sheet, sizeof sheet), 0);
     WORDS(bd_walker, 0);
     raw_walk_next(answer, room + AROUND, sheet, sizeof sheet);
     WORDS(bd_walker, 1);
-    same("refusal of 15 bytes", raw_walk_begin(fresh(), sheet, 15), 16);
+    same("refusal of 15 bytes", raw_walk_begin(fresh(), BD_GUEST_WING, sheet, 15), 16);
     WORDS(bd_walker, UINT64_MAX);
     AT(bd_walker, row, 0);
 }

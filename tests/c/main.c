@@ -70,6 +70,8 @@ int main(void)
     sheets();
     loaded();
     no_sheets();
+    content();
+    refusal_order();
     changed();
     return 0;
 }

@@ -63,9 +63,10 @@ static void refusals(void)
         [BD_SHEET_TOO_SHORT] = "the sheet has fewer than 16 bytes",
         [BD_BAD_SHEET_YEARS] = "the sheet's years are not 1 to 100 of the years 1 to 9999",
         [BD_BAD_SHEET_LAYOUT] = "the sheet's header, index and size do not fit each other",
+        [BD_BAD_SHEET_CONTENT] = "the sheet's rows or its years' lengths are not the calendar's for the wing named",
     };
     asking("the refusals");
-    same("count", COUNT(want), 19);
+    same("count", COUNT(want), 20);
     for (uint64_t refusal = 0; refusal < COUNT(want); ++refusal) /* 12 to 14 have no name */
         same_text("name", bd_refusal_name(refusal), want[refusal] != NULL ? want[refusal] : "?");
     same_text("no name", bd_refusal_name(COUNT(want)), "?");

@@ -9,15 +9,10 @@
 
 static uint8_t room[BD_SHEET_ROOM];
 
-/* The bytes are refused so, for a year that the sheet would have and for others, and a walk on them has ended. */
+/* The layout is one for both wings. */
 static void refused(const uint8_t *sheet, size_t length, uint64_t refusal)
 {
-    asking("%zu bytes", length);
-    same("the reader's refusal", read_refusal(sheet, length), refusal);
-    same_rows(sheet, length, 5762), same_rows(sheet, length, 0), same_rows(sheet, length, UINT64_MAX);
-    same_answer("5762", bd_sheet_rows(sheet, length, 5762), refusal, 0, 0);
-    same_answer("no year of sheet 2", bd_sheets_rows(2, NULL, 0, sheet, length, 0), refusal, 0, 0);
-    same_walk(sheet, length, ALL_STEPS);
+    for (uint64_t wing = 1; wing <= 2; ++wing) same_refusal(wing, sheet, length, refusal);
 }
 
 /* Every length but the true one. */
@@ -37,8 +32,9 @@ static const struct {
     uint64_t years, first_year, rows, index, rows_offset, refusal;
 } HEADERS[] = {
     {1, 5762, 56, 16, 24, BD_DONE},
-    {1, 1, 56, 16, 24, BD_DONE},
-    {1, 9999, 56, 16, 24, BD_DONE},
+    {1, 1, 56, 16, 24, BD_BAD_SHEET_CONTENT},
+    {1, 5763, 56, 16, 24, BD_BAD_SHEET_CONTENT},
+    {1, 9999, 56, 16, 24, BD_BAD_SHEET_CONTENT},
     {0, 5762, 56, 16, 24, BD_BAD_SHEET_YEARS},
     {101, 5762, 56, 16, 24, BD_BAD_SHEET_YEARS},
     {101, 5762, 56, 16, 16 + 8 * 101, BD_BAD_SHEET_YEARS},
@@ -94,9 +90,9 @@ static void headers(void)
         uint64_t refusal = HEADERS[i].refusal;
         put_header(i);
         const uint8_t *sheet = before_edge(room, length);
-        same_walk(sheet, length, ALL_STEPS);
+        same_walk(BD_WING_1, sheet, length, ALL_STEPS);
         if (refusal == BD_DONE)
-            same_answer("the first year", bd_sheet_rows(sheet, length, HEADERS[i].first_year), BD_DONE, 24, 6 * 56);
+            same_answer("5762", bd_sheet_rows(BD_WING_1, sheet, length, 5762), BD_DONE, 24, 6 * 56);
         else
             refused(sheet, length, refusal);
         refused(before_edge(room, HEADER), HEADER, refusal == BD_BAD_SHEET_YEARS ? refusal : BD_BAD_SHEET_LAYOUT);
@@ -165,18 +161,20 @@ static void exchanged(void)
     const uint8_t *one = before_edge(room, m);
     bd_walker walker;
 
-    same("refusal of four years", bd_walk_begin(&walker, four, n), BD_DONE);
+    same("refusal of four years", bd_walk_begin(&walker, BD_GUEST_WING, four, n), BD_DONE);
     for (int i = 0; i < 100; ++i) same("a row of four years", same_step(&walker, four, n), 1);
     same("row 100 of one year", same_step(&walker, one, m), 0);
     same("row 100 of four years", same_step(&walker, four, n), 1);
 
-    same("refusal of one year", bd_walk_begin(&walker, one, m), BD_DONE);
+    same("refusal of one year", bd_walk_begin(&walker, BD_WING_1, one, m), BD_DONE);
     for (int i = 0; i < 56; ++i) same("a row of one year", same_step(&walker, one, m), 1);
     same("row 56 of one year", same_step(&walker, one, m), 0);
     same("row 56 of four years", same_step(&walker, four, n), 1);
 
-    same("refusal of too few bytes", bd_walk_begin(&walker, four, n - 1), BD_BAD_SHEET_LAYOUT);
+    same("refusal of too few bytes", bd_walk_begin(&walker, BD_GUEST_WING, four, n - 1), BD_BAD_SHEET_LAYOUT);
     same("a row where the walk was refused", same_step(&walker, four, n), 0);
+    same("refusal of the other wing's", bd_walk_begin(&walker, BD_WING_1, four, n), BD_BAD_SHEET_CONTENT);
+    same("a row where the other wing's was refused", same_step(&walker, four, n), 0);
 }
 
 void no_sheets(void)

@@ -11,11 +11,11 @@
 /* The answer's place comes before the arguments, and is returned. */
 typedef uint64_t *raw_1(uint64_t *answer, uint64_t);
 typedef uint64_t *raw_2(uint64_t *answer, uint64_t, uint64_t);
-typedef uint64_t *raw_rows(uint64_t *answer, const uint8_t *, size_t, uint64_t);
+typedef uint64_t *raw_rows(uint64_t *answer, uint64_t, const uint8_t *, size_t, uint64_t);
 typedef uint64_t *raw_named_rows(uint64_t *answer, uint64_t, const uint8_t *, size_t, const uint8_t *, size_t, uint64_t);
 typedef uint64_t *raw_step(uint64_t *answer, uint64_t *walker, const uint8_t *, size_t);
 /* This one answers with a number. */
-typedef uint64_t raw_begin(uint64_t *walker, const uint8_t *, size_t);
+typedef uint64_t raw_begin(uint64_t *walker, uint64_t, const uint8_t *, size_t);
 
 extern raw_1 *const raw_day_to_julian, *const raw_day_to_gregorian, *const raw_new_year, *const raw_new_year_rhodes,
     *const raw_year, *const raw_kind, *const raw_day_to_hebrew;

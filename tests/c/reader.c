@@ -9,17 +9,46 @@
 /* The count of rows in an index entry. */
 static uint64_t count_of(const uint8_t *sheet, uint64_t entry) { return number_at(sheet + HEADER + ENTRY * entry + 4, 2); }
 
-uint64_t read_refusal(const uint8_t *sheet, size_t length)
-{
-    uint8_t anew[HEADER + ENTRY * BD_SHEET_YEARS];
-    if (length < HEADER) return BD_SHEET_TOO_SHORT;
-    uint64_t years = number_at(sheet, 2), first_year = number_at(sheet + 2, 2), rows = 0;
-    if (years < 1 || years > BD_SHEET_YEARS) return BD_BAD_SHEET_YEARS;
-    if (first_year < 1 || first_year + years - 1 > 9999) return BD_BAD_SHEET_YEARS;
-    uint64_t rows_offset = HEADER + ENTRY * years;
-    if (length < rows_offset) return BD_BAD_SHEET_LAYOUT;
+/* What a sheet of a wing has for a year besides offsets: the index's count and length, and the rows. */
+typedef struct {
+    uint8_t told[4], rows[ROW * BD_STRETCHES_ROOM / 2];
+    size_t size;
+} year_content;
 
-    uint8_t *out = anew + HEADER;
+/* Worked out when it is first asked for, and kept. */
+static const year_content *content_of(uint64_t wing, uint64_t year)
+{
+    static year_content kept[2][10000];
+    year_content *content = &kept[wing - 1][year];
+    if (content->size > 0) return content;
+    uint64_t list[BD_STRETCHES_ROOM], count = bd_stretches(wing, year, list, COUNT(list)).count;
+    put_number(put_number(content->told, count, 2), bd_year(year).length, 2);
+    uint8_t *out = content->rows;
+    for (uint64_t i = 0; i < count; ++i)
+        out = put_number(put_number(put_number(out, list[2 * i], 4), list[2 * i + 1], 1), wing, 1);
+    content->size = ROW * count;
+    return content;
+}
+
+/* Whether a sheet that fits the layout is the calendar's: where the counts are, all rows stand inside it. */
+static int is_calendars(uint64_t wing, const uint8_t *sheet, uint64_t first_year, uint64_t years)
+{
+    const uint8_t *rows = sheet + HEADER + ENTRY * years;
+    for (uint64_t i = 0; i < years; ++i) {
+        const year_content *content = content_of(wing, first_year + i);
+        if (memcmp(sheet + HEADER + ENTRY * i + 4, content->told, sizeof content->told) != 0) return 0;
+        if (memcmp(rows, content->rows, content->size) != 0) return 0;
+        rows += content->size;
+    }
+    return 1;
+}
+
+/* Whether the bytes fit the layout of so many years. */
+static int fits(const uint8_t *sheet, size_t length, uint64_t first_year, uint64_t years)
+{
+    uint8_t anew[HEADER + ENTRY * BD_SHEET_YEARS], *out = anew + HEADER;
+    uint64_t rows_offset = HEADER + ENTRY * years, rows = 0;
+    if (length < rows_offset) return 0;
     for (uint64_t i = 0; i < years; ++i) {
         out = put_number(out, rows_offset + ROW * rows, 4);
         out = put_number(out, count_of(sheet, i), 2);
@@ -28,13 +57,23 @@ uint64_t read_refusal(const uint8_t *sheet, size_t length)
     }
     out = put_number(put_number(put_number(anew, years, 2), first_year, 2), rows, 4);
     put_number(put_number(out, HEADER, 4), rows_offset, 4);
-    if (memcmp(anew, sheet, rows_offset) != 0) return BD_BAD_SHEET_LAYOUT;
-    return length == rows_offset + ROW * rows ? BD_DONE : BD_BAD_SHEET_LAYOUT;
+    return memcmp(anew, sheet, rows_offset) == 0 && length == rows_offset + ROW * rows;
 }
 
-bd_rows_answer read_rows(const uint8_t *sheet, size_t length, uint64_t year)
+uint64_t read_refusal(uint64_t wing, const uint8_t *sheet, size_t length)
 {
-    bd_rows_answer answer = {read_refusal(sheet, length), 0, 0};
+    if (wing != BD_WING_1 && wing != BD_GUEST_WING) return BD_BAD_WING;
+    if (length < HEADER) return BD_SHEET_TOO_SHORT;
+    uint64_t years = number_at(sheet, 2), first_year = number_at(sheet + 2, 2);
+    if (years < 1 || years > BD_SHEET_YEARS) return BD_BAD_SHEET_YEARS;
+    if (first_year < 1 || first_year + years - 1 > 9999) return BD_BAD_SHEET_YEARS;
+    if (!fits(sheet, length, first_year, years)) return BD_BAD_SHEET_LAYOUT;
+    return is_calendars(wing, sheet, first_year, years) ? BD_DONE : BD_BAD_SHEET_CONTENT;
+}
+
+bd_rows_answer read_rows(uint64_t wing, const uint8_t *sheet, size_t length, uint64_t year)
+{
+    bd_rows_answer answer = {read_refusal(wing, sheet, length), 0, 0};
     if (answer.refusal != BD_DONE) return answer;
     uint64_t years = number_at(sheet, 2), first_year = number_at(sheet + 2, 2);
     if (year < first_year || year > first_year + years - 1) {
@@ -85,30 +124,32 @@ void same_answer(const char *question, bd_rows_answer got, uint64_t refusal, uin
 }
 
 /* There are millions of these: a question is put into words, and its fields are told apart, where the answer differs. */
-static uint64_t as_read(const char *call, uint64_t year, bd_rows_answer got, bd_rows_answer want)
+static uint64_t as_read(const char *call, uint64_t named, uint64_t year, bd_rows_answer got, bd_rows_answer want)
 {
     int differs = memcmp(&got, &want, sizeof got) != 0;
     if (differs) {
-        char question[60];
-        snprintf(question, sizeof question, "%s for %" PRIu64, call, year);
+        char question[80];
+        snprintf(question, sizeof question, "%s %" PRIu64 " for %" PRIu64, call, named, year);
         same_answer(question, got, want.refusal, want.offset, want.length);
     }
     same("answer differs", (uint64_t)differs, 0);
     return got.refusal;
 }
 
-uint64_t same_rows(const uint8_t *sheet, size_t length, uint64_t year)
+uint64_t same_rows(uint64_t wing, const uint8_t *sheet, size_t length, uint64_t year)
 {
-    return as_read("bd_sheet_rows", year, bd_sheet_rows(sheet, length, year), read_rows(sheet, length, year));
+    return as_read("bd_sheet_rows, wing", wing, year, bd_sheet_rows(wing, sheet, length, year),
+                   read_rows(wing, sheet, length, year));
 }
 
 uint64_t same_named_rows(uint64_t named, const uint8_t *sheet_1, size_t length_1, const uint8_t *sheet_2, size_t length_2,
                          uint64_t year)
 {
     bd_rows_answer want = {BD_BAD_WING, 0, 0};
-    if (named == 1) want = read_rows(sheet_1, length_1, year);
-    if (named == 2) want = read_rows(sheet_2, length_2, year);
-    return as_read("bd_sheets_rows", year, bd_sheets_rows(named, sheet_1, length_1, sheet_2, length_2, year), want);
+    if (named == 1) want = read_rows(BD_WING_1, sheet_1, length_1, year);
+    if (named == 2) want = read_rows(BD_GUEST_WING, sheet_2, length_2, year);
+    return as_read("bd_sheets_rows, sheet", named, year,
+                   bd_sheets_rows(named, sheet_1, length_1, sheet_2, length_2, year), want);
 }
 
 uint64_t same_step(bd_walker *walker, const uint8_t *sheet, size_t length)
@@ -125,16 +166,31 @@ uint64_t same_step(bd_walker *walker, const uint8_t *sheet, size_t length)
     return got.more;
 }
 
-void same_walk(const uint8_t *sheet, size_t length, uint64_t steps)
+void same_walk(uint64_t wing, const uint8_t *sheet, size_t length, uint64_t steps)
 {
     bd_walker walker = {GUARD};
-    uint64_t refusal = bd_walk_begin(&walker, sheet, length), want = read_refusal(sheet, length);
+    uint64_t refusal = bd_walk_begin(&walker, wing, sheet, length), want = read_refusal(wing, sheet, length);
     uint64_t first = want == BD_DONE ? 0 : UINT64_MAX;
     if (refusal != want || walker.row != first)
-        asking("%s %" PRIu64 ", %zu bytes: bd_walk_begin", sheet_name, sheet_number, length);
+        asking("%s %" PRIu64 ", %zu bytes: bd_walk_begin, wing %" PRIu64, sheet_name, sheet_number, length, wing);
     same("refusal", refusal, want), same("row of the walker", walker.row, first);
 
     uint64_t rows = want == BD_DONE ? (length - HEADER - ENTRY * number_at(sheet, 2)) / ROW : 0;
     for (uint64_t i = 0; i < steps && i < rows + 3; ++i)
         same("a row is handed out", same_step(&walker, sheet, length), i < rows);
+}
+
+void same_refusal(uint64_t wing, const uint8_t *sheet, size_t length, uint64_t refusal)
+{
+    uint64_t year = length < HEADER ? 5787 : number_at(sheet + 2, 2); /* a first year, if it is one */
+    const uint8_t *one = wing == 2 ? NULL : sheet, *two = wing == 2 ? sheet : NULL;
+    size_t n = wing == 2 ? 0 : length, m = wing == 2 ? length : 0;
+    asking("%s %" PRIu64 ", %zu bytes, wing %" PRIu64, sheet_name, sheet_number, length, wing);
+    same("the reader's refusal", read_refusal(wing, sheet, length), refusal);
+    same_answer("its first year", bd_sheet_rows(wing, sheet, length, year), refusal, 0, 0);
+    same_answer("the year before", bd_sheet_rows(wing, sheet, length, year - 1), refusal, 0, 0);
+    same_answer("the largest year", bd_sheet_rows(wing, sheet, length, UINT64_MAX), refusal, 0, 0);
+    same_answer("of two, its first year", bd_sheets_rows(wing, one, n, two, m, year), refusal, 0, 0);
+    same_answer("of two, year 0", bd_sheets_rows(wing, one, n, two, m, 0), refusal, 0, 0);
+    same_walk(wing, sheet, length, ALL_STEPS);
 }

@@ -89,7 +89,7 @@ extern "C" {
     fn bd_stretch(wing: u64, day: u64) -> Stretch;
     fn bd_stretches(wing: u64, year: u64, out: *mut u64, length: usize) -> Pair;
     fn bd_sheet_write(wing: u64, first_year: u64, years: u64, out: *mut u8, length: usize) -> Pair;
-    fn bd_sheet_rows(sheet: *const u8, length: usize, year: u64) -> Rows;
+    fn bd_sheet_rows(wing: u64, sheet: *const u8, length: usize, year: u64) -> Rows;
     fn bd_sheets_rows(
         named: u64,
         sheet_1: *const u8,
@@ -98,7 +98,7 @@ extern "C" {
         length_2: usize,
         year: u64,
     ) -> Rows;
-    fn bd_walk_begin(walker: *mut Walker, sheet: *const u8, length: usize) -> u64;
+    fn bd_walk_begin(walker: *mut Walker, wing: u64, sheet: *const u8, length: usize) -> u64;
     fn bd_walk_next(walker: *mut Walker, sheet: *const u8, length: usize) -> Row;
 }
 
@@ -330,9 +330,9 @@ fn sheet(wing: u64, first_year: u64, years: &[(u64, Vec<(u64, u64)>)]) -> Vec<u8
     want
 }
 
-/// The refusal of a sheet's rows of a year, and where they stand.
-fn rows(sheet: &[u8], year: u64) -> (u64, u64, u64) {
-    let got = unsafe { bd_sheet_rows(sheet.as_ptr(), sheet.len(), year) };
+/// The refusal of a wing's sheet's rows of a year, and where they stand.
+fn rows(wing: u64, sheet: &[u8], year: u64) -> (u64, u64, u64) {
+    let got = unsafe { bd_sheet_rows(wing, sheet.as_ptr(), sheet.len(), year) };
     (got.refusal, got.offset, got.length)
 }
 
@@ -341,6 +341,13 @@ fn named_rows(named: u64, sheets: [&[u8]; 2], year: u64) -> (u64, u64, u64) {
     let [one, two] = sheets;
     let got = unsafe { bd_sheets_rows(named, one.as_ptr(), one.len(), two.as_ptr(), two.len(), year) };
     (got.refusal, got.offset, got.length)
+}
+
+/// A walk that is begun on a wing's sheet: its refusal and its walker.
+fn begin(wing: u64, sheet: &[u8]) -> (u64, Walker) {
+    let mut walker = Walker { row: 5787 };
+    let refusal = unsafe { bd_walk_begin(&mut walker, wing, sheet.as_ptr(), sheet.len()) };
+    (refusal, walker)
 }
 
 /// The walker's next row: its stretch and its wing, if there is one.
@@ -359,12 +366,12 @@ fn next(walker: &mut Walker, sheet: &[u8]) -> Option<((u64, u64), u64)> {
 /// it has.
 fn read_back(wing: u64, first_year: u64, years: &[(u64, Vec<(u64, u64)>)], sheet: &[u8]) -> u64 {
     let (mut offset, mut count) = (16 + 8 * years.len() as u64, 0);
-    let mut walker = Walker { row: u64::MAX };
-    assert_eq!(unsafe { bd_walk_begin(&mut walker, sheet.as_ptr(), sheet.len()) }, 0, "a walk from {first_year}");
+    let (refusal, mut walker) = begin(wing, sheet);
+    assert_eq!((refusal, walker.row), (0, 0), "a walk from {first_year}");
     for (year, (_, runs)) in (first_year..).zip(years) {
         let length = 6 * runs.len() as u64;
-        assert_eq!(rows(sheet, year), (0, offset, length), "rows of {year}, wing {wing}");
-        assert_eq!(named_rows(2, [&[], sheet], year), (0, offset, length), "rows of {year} of sheet 2");
+        assert_eq!(rows(wing, sheet, year), (0, offset, length), "rows of {year}, wing {wing}");
+        assert_eq!(named_rows(wing, [sheet, sheet], year), (0, offset, length), "rows of {year} of sheet {wing}");
         for &run in runs {
             assert_eq!(next(&mut walker, sheet), Some((run, wing)), "a row of {year}, wing {wing}");
         }
@@ -377,13 +384,13 @@ fn read_back(wing: u64, first_year: u64, years: &[(u64, Vec<(u64, u64)>)], sheet
         assert_eq!(walker.row, count, "behind the last row");
     }
     for year in [0, first_year - 1, first_year + years.len() as u64, 1 << 32 | first_year, u64::MAX] {
-        assert_eq!(rows(sheet, year), (1, 0, 0), "rows of {year}");
+        assert_eq!(rows(wing, sheet, year), (1, 0, 0), "rows of {year}");
     }
     count
 }
 
-/// Bytes that are no sheet, and a sheet that is not named.
-fn refused_sheets(sheet: &[u8], year: u64) {
+/// Bytes that are not the wing's sheet, each with its refusal, beside the sheet itself and for what is no wing.
+fn refused_sheets(wing: u64, sheet: &[u8], year: u64) {
     let with = |place: usize, byte: u8| {
         let mut bytes = sheet.to_vec();
         bytes[place] = byte;
@@ -391,28 +398,43 @@ fn refused_sheets(sheet: &[u8], year: u64) {
     };
     let longer = [sheet, &[0; 6]].concat();
     let (no_years, other_rows, other_index) = (with(0, 0), with(4, !sheet[4]), with(8, 0));
-    let cases: [(&[u8], u64); 9] = [
+    let last = sheet.len() - 1;
+    let (other_years, other_length) = (with(2, sheet[2] - 1), with(22, sheet[22] ^ 1));
+    let (other_day, other_wing) = (with(last - 5, sheet[last - 5] ^ 1), with(last, 3 - sheet[last]));
+    let cases: [(&[u8], u64); 13] = [
         (&[], 16),
         (&sheet[..15], 16),
         (&no_years[..16], 17),
         (&no_years, 17),
         (&sheet[..16], 18),
-        (&sheet[..sheet.len() - 1], 18),
+        (&sheet[..last], 18),
         (&longer, 18),
         (&other_rows, 18),
         (&other_index, 18),
+        (&other_years, 19),
+        (&other_length, 19),
+        (&other_day, 19),
+        (&other_wing, 19),
     ];
+    let refused = |named: u64, bytes: &[u8], refusal: u64| {
+        let name = format!("{} bytes, wing {named}", bytes.len());
+        for year in [0, year, u64::MAX] {
+            assert_eq!(rows(named, bytes, year), (refusal, 0, 0), "{name}, year {year}");
+            assert_eq!(named_rows(named, [bytes, bytes], year), (refusal, 0, 0), "{name}, year {year}, of two");
+        }
+        let (got, mut walker) = begin(named, bytes);
+        assert_eq!((got, walker.row), (refusal, u64::MAX), "a walk on {name}");
+        assert_eq!(next(&mut walker, bytes), None, "a walk on {name}");
+    };
     for (bytes, refusal) in cases {
-        assert_eq!(rows(bytes, year), (refusal, 0, 0), "{} bytes", bytes.len());
-        assert_eq!(rows(bytes, 0), (refusal, 0, 0), "{} bytes", bytes.len());
-        assert_eq!(named_rows(1, [bytes, sheet], year), (refusal, 0, 0), "{} bytes", bytes.len());
-        assert_eq!(named_rows(2, [bytes, sheet], year).0, 0, "beside {} bytes", bytes.len());
-        assert_eq!(named_rows(3, [bytes, sheet], year), (15, 0, 0), "neither of two");
-        let mut walker = Walker { row: 0 };
-        let got = unsafe { bd_walk_begin(&mut walker, bytes.as_ptr(), bytes.len()) };
-        assert_eq!((got, walker.row), (refusal, u64::MAX), "a walk on {} bytes", bytes.len());
-        assert_eq!(next(&mut walker, bytes), None, "a walk on {} bytes", bytes.len());
+        refused(wing, bytes, refusal);
+        let beside = if wing == 1 { [sheet, bytes] } else { [bytes, sheet] };
+        assert_eq!(named_rows(wing, beside, year).0, 0, "beside {} bytes", bytes.len());
+        for no_wing in [0, 3, 1 << 32 | wing, u64::MAX] {
+            refused(no_wing, bytes, 15);
+        }
     }
+    refused(3 - wing, sheet, 19);
 }
 
 /// A bad wing is refused before a good year or day, and before a bad one.
@@ -453,7 +475,7 @@ fn main() {
             let sheet = sheet(wing, first_year, years);
             bytes += sheet.len();
             read += read_back(wing, first_year, years, &sheet);
-            refused_sheets(&sheet, first_year);
+            refused_sheets(wing, &sheet, first_year);
         }
     }
     println!("Rust calls: two sheets of each wing: {bytes} bytes, and {read} rows read back");
