@@ -6,7 +6,6 @@ use Prim.Native.Nat.{ℕ, _+_, _*_, _<_}
 use native.Mathlib.Omega.{arith}
 use lib.ListN.{getD}
 use Rattle.laws.specs.Runs.{every}
-use Rattle.laws.proofs.One.{one-result}
 use Rattle.laws.proofs.Tests.{at, every-more, clash}
 use Rattle.content.specs.Content.{rowAgrees, rowsAgree, yearAgrees, contentAgrees}
 
@@ -35,7 +34,3 @@ module _ (wing : ℕ) (bytes : List ℕ) (h : ℕ) where
       go : (b : Bool) → contentAgrees wing bytes h years ≡ b → contentAgrees wing bytes h years ≡ false
       go true q = absurd (clash (yearAgrees wing bytes i (h + i)) (at 0 years (λ i. yearAgrees wing bytes i (h + i)) q i (omega arith) (omega arith)) e)
       go false q = q
-
-  -- One answer.
-  pub agrees-one : (years : ℕ) (r s : Bool) → r ≡ contentAgrees wing bytes h years → s ≡ contentAgrees wing bytes h years → r ≡ s
-  agrees-one years = one-result (contentAgrees wing bytes h years)

@@ -1,3 +1,4 @@
+pub mod Answers
 pub mod Compared
 pub mod OneList
 pub mod Told
