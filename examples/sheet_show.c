@@ -73,14 +73,11 @@ static void show(bd_walker walker, const uint8_t *sheet, size_t length)
 }
 
 /* Says why; and where the sheet would be accepted for the other wing, that it is that one's. */
-static void refused(const char *wing, const char *file, const uint8_t *sheet, size_t length, uint64_t refusal)
+static void refused(uint64_t wing, const char *file, const uint8_t *sheet, size_t length, uint64_t refusal)
 {
     bd_walker walker;
-    uint64_t other = read_wing(wing) == BD_WING_1 ? BD_GUEST_WING : BD_WING_1;
-    if (refusal == BD_BAD_WING)
-        fprintf(stderr, "sheet_show: '%s' is refused: a wing is 1 or 2, in figures alone (refusal 15)\n", wing);
-    else
-        fprintf(stderr, "sheet_show: %s: %s (refusal %" PRIu64 ")\n", file, bd_refusal_name(refusal), refusal);
+    uint64_t other = wing == BD_WING_1 ? BD_GUEST_WING : BD_WING_1;
+    fprintf(stderr, "sheet_show: %s: %s (refusal %" PRIu64 ")\n", file, bd_refusal_name(refusal), refusal);
     if (refusal == BD_BAD_SHEET_CONTENT && bd_walk_begin(&walker, other, sheet, length) == BD_DONE)
         fprintf(stderr, "sheet_show: %s: it is the sheet of wing %" PRIu64 "\n", file, other);
 }
@@ -95,7 +92,7 @@ int main(int argc, char **argv)
                         "FILE is that wing's sheet that a panel loads, as make sheet writes it\n");
         return 2;
     }
-    const char *wing = argv[1], *name = argv[2];
+    const char *typed = argv[1], *name = argv[2];
     FILE *file = fopen(name, "rb");
     size_t length = file == NULL ? 0 : fread(sheet, 1, sizeof sheet, file);
     if (file == NULL || ferror(file)) {
@@ -104,9 +101,12 @@ int main(int argc, char **argv)
     }
     fclose(file);
     bd_walker walker;
-    uint64_t refusal = bd_walk_begin(&walker, read_wing(wing), sheet, length);
+    uint64_t wing = read_wing(typed), refusal = bd_walk_begin(&walker, wing, sheet, length);
     if (refusal == BD_DONE)
         show(walker, sheet, length);
+    else if (refusal == BD_BAD_WING)
+        fprintf(stderr, "sheet_show: '%s' is refused: a wing is 1 or 2, in figures alone (refusal %" PRIu64 ")\n", typed,
+                refusal);
     else
         refused(wing, name, sheet, length, refusal);
     if (fflush(stdout) != 0) {

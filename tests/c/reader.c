@@ -21,8 +21,12 @@ static const year_content *content_of(uint64_t wing, uint64_t year)
     static year_content kept[2][10000];
     year_content *content = &kept[wing - 1][year];
     if (content->size > 0) return content;
-    uint64_t list[BD_STRETCHES_ROOM], count = bd_stretches(wing, year, list, COUNT(list)).count;
-    put_number(put_number(content->told, count, 2), bd_year(year).length, 2);
+    uint64_t list[BD_STRETCHES_ROOM];
+    bd_list_answer stretches = bd_stretches(wing, year, list, COUNT(list));
+    bd_year_answer days = bd_year(year);
+    same("refusal of the year's list", stretches.refusal, BD_DONE), same("refusal of the year", days.refusal, BD_DONE);
+    uint64_t count = stretches.count;
+    put_number(put_number(content->told, count, 2), days.length, 2);
     uint8_t *out = content->rows;
     for (uint64_t i = 0; i < count; ++i)
         out = put_number(put_number(put_number(out, list[2 * i], 4), list[2 * i + 1], 1), wing, 1);

@@ -1,4 +1,4 @@
-// Headers and indexes of a writer's own and of the least and the largest numbers, over rows of wing 1.
+// Headers, indexes and year lengths, a writer's own and the least and the largest numbers, over rows of wing 1.
 ghost use Prim.Native.Nat.{_≤_, _+_};
 ghost use lib.ListN.{length};
 use crate::answers::asked;

@@ -5,7 +5,6 @@ use mathlib.Core.List.{List}
 use Prim.Native.Nat.{ℕ, _+_, _*_, _<_}
 use native.Mathlib.Omega.{arith}
 use lib.ListN.{getD}
-use Rattle.laws.specs.Runs.{every}
 use Rattle.laws.proofs.Tests.{at, every-more, clash}
 use Rattle.content.specs.Content.{rowAgrees, rowsAgree, yearAgrees, contentAgrees}
 

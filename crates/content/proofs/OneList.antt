@@ -44,8 +44,8 @@ alike from (f ∷ c ∷ a) (g ∷ d ∷ b) r s p q =
     rw (same .0, same .1, rest)
 
 -- So two lists of a year's stretches are one.
-pub stretches-one : (table : List ℕ) (h : ℕ) (a b : List ℕ) → StretchesOf table h a → StretchesOf table h b → a ≡ b
-stretches-one table h a b s t =
+pub one-list : (table : List ℕ) (h : ℕ) (a b : List ℕ) → StretchesOf table h a → StretchesOf table h b → a ≡ b
+one-list table h a b s t =
     alike _ a b (s .rising) (t .rising)
     (λ f c m. let o = s .only f c m in t .every f c (o .0) (o .1 .0) (o .1 .1))
     (λ f c m. let o = t .only f c m in s .every f c (o .0) (o .1 .0) (o .1 .1))

@@ -1,7 +1,7 @@
 -- What is compared is what a sheet tells: the content agrees exactly if header and index lead to the calendar's years.
 use mathlib.Core.Path.{_≡_, refl, sym, _∙_}
 use mathlib.Core.Bool.{Bool, true}
-use mathlib.Core.List.{List, [], _∷_, _++_}
+use mathlib.Core.List.{List, [], _∷_}
 use mathlib.Core.Logic.{by-cases}
 use Prim.Native.Nat.{ℕ, zero, suc, _+_, _*_, _/_, _≤_, _<_}
 use native.Mathlib.Omega.{arith}
@@ -24,7 +24,7 @@ use Rattle.sheet.specs.Sheet.{rowsIn}
 use Rattle.sheet.specs.Promises.{offsetTold, rowsTold, lengthTold, rowsToldBefore, stretchesTold, SheetOf}
 use Rattle.sheet.proofs.Pairs.{pairAt, pairs-joined}
 use Rattle.content.specs.Content.{rowAgrees, rowsAgree, yearAgrees, contentAgrees}
-use Rattle.content.proofs.OneList.{stretches-one}
+use Rattle.content.proofs.OneList.{one-list}
 
 -- Entries that are put together two by two.
 module _ (f g : ℕ → ℕ) where
@@ -60,44 +60,44 @@ module _ (wing h years : ℕ) (bytes : List ℕ) where
   abbrev daysAt : ℕ → ℕ → ℕ
   daysAt i k = numberAt bytes (offsetTold bytes i + 6 * k + 4) 1
 
-  abbrev pub RowTold : ℕ → ℕ → Type 0
-  RowTold i k =
+  abbrev pub CalendarsRow : ℕ → ℕ → Type 0
+  CalendarsRow i k =
       (firstAt i k ≡ getD (list i) (2 * k) 0) × ((daysAt i k ≡ getD (list i) (2 * k + 1) 0) × (numberAt bytes (offsetTold bytes i + 6 * k + 5) 1 ≡ wing))
 
-  pub record YearTold (i : ℕ) : Type 0 where
+  pub record CalendarsYear (i : ℕ) : Type 0 where
     pub long : lengthTold bytes i ≡ yearLength (h + i)
     pub many : rowsTold bytes i ≡ rowsIn wing (h + i)
-    pub each : (k : ℕ) → k < rowsIn wing (h + i) → RowTold i k
+    pub each : (k : ℕ) → k < rowsIn wing (h + i) → CalendarsRow i k
 
   -- It is told so where it agrees, and the other way round.
   abbrev rowSame : ℕ → ℕ → Bool
   rowSame i k = rowAgrees wing bytes (offsetTold bytes i + 6 * k) (getD (list i) (2 * k) 0) (getD (list i) (2 * k + 1) 0)
 
-  row-same : (i k : ℕ) → RowTold i k → rowSame i k ≡ true
+  row-same : (i k : ℕ) → CalendarsRow i k → rowSame i k ≡ true
   unfolding rowAgrees
   row-same i k r = rw (eq-eqb _ _ (r .0), eq-eqb _ _ (r .1 .0), eq-eqb _ _ (r .1 .1))
 
-  row-told : (i k : ℕ) → rowSame i k ≡ true → RowTold i k
+  row-read : (i k : ℕ) → rowSame i k ≡ true → CalendarsRow i k
   unfolding rowAgrees
-  row-told i k e =
+  row-read i k e =
       let second = and-right (eqb (firstAt i k) (getD (list i) (2 * k) 0)) _ e in
       let third = and-right (eqb (daysAt i k) (getD (list i) (2 * k + 1) 0)) _ second in
       (eqb-true _ _ (and-left _ _ e), (eqb-true _ _ (and-left _ _ second), eqb-true _ _ third))
 
-  year-same : (i : ℕ) → YearTold i → yearAgrees wing bytes i (h + i) ≡ true
+  year-same : (i : ℕ) → CalendarsYear i → yearAgrees wing bytes i (h + i) ≡ true
   unfolding yearAgrees rowsAgree
   year-same i t =
       rw (eq-eqb _ _ (t .long), eq-eqb _ _ (t .many), passed 0 (rowsIn wing (h + i)) (rowSame i) (λ k l u. row-same i k (t .each k (omega arith))))
 
-  year-told : (i : ℕ) → yearAgrees wing bytes i (h + i) ≡ true → YearTold i
+  year-read : (i : ℕ) → yearAgrees wing bytes i (h + i) ≡ true → CalendarsYear i
   unfolding yearAgrees rowsAgree
-  year-told i e =
+  year-read i e =
       let second = and-right (eqb (lengthTold bytes i) (yearLength (h + i))) _ e in
       let third = and-right (eqb (rowsTold bytes i) (rowsIn wing (h + i))) _ second in
       record {
         long = eqb-true _ _ (and-left _ _ e);
         many = eqb-true _ _ (and-left _ _ second);
-        each = λ k p. row-told i k (at 0 (rowsIn wing (h + i)) (rowSame i) third k (omega arith) (omega arith));
+        each = λ k p. row-read i k (at 0 (rowsIn wing (h + i)) (rowSame i) third k (omega arith) (omega arith));
       }
 
   module _ (from : 1 ≤ h) (to : h + years ≤ 10000) where
@@ -105,11 +105,11 @@ module _ (wing h years : ℕ) (bytes : List ℕ) where
     its-stretches i p = stretches-of (tableOf wing) (tables-pass wing) (h + i) (omega arith) (omega arith)
 
     -- A sheet tells each year so, since the year has one list of stretches.
-    pub sheet-tells : SheetOf wing h years bytes → (i : ℕ) → i < years → YearTold i
+    pub sheet-tells : SheetOf wing h years bytes → (i : ℕ) → i < years → CalendarsYear i
     unfolding stretchesTold rowsIn
     sheet-tells s i p =
         let n = rowsTold bytes i in
-        let e = stretches-one (tableOf wing) (h + i) (stretchesTold bytes (offsetTold bytes i) n) (list i) (s .stretches i p) (its-stretches i p) in
+        let e = one-list (tableOf wing) (h + i) (stretchesTold bytes (offsetTold bytes i) n) (list i) (s .stretches i p) (its-stretches i p) in
         let two = rw e at (pairs-long (firstAt i) (daysAt i) n) in
         let many : n ≡ length (list i) / 2 = omega (arith, two) in
         record {
@@ -125,7 +125,7 @@ module _ (wing h years : ℕ) (bytes : List ℕ) where
     unfolding contentAgrees
     sheet-agrees s = passed 0 years (λ i. yearAgrees wing bytes i (h + i)) (λ i l u. year-same i (sheet-tells s i (omega arith)))
 
-    -- Where the content agrees, what the header and the index' places make a sheet is one of the wing.
+    -- Where the content agrees, bytes that header and index make a sheet are one of the wing.
     pub agrees-sheet :
         numberAt bytes 0 2 ≡ years → numberAt bytes 2 2 ≡ h → numberAt bytes 4 4 ≡ rowsToldBefore bytes years →
         numberAt bytes 8 4 ≡ 16 → numberAt bytes 12 4 ≡ 16 + 8 * years → length bytes ≡ 16 + 8 * years + 6 * rowsToldBefore bytes years →
@@ -133,7 +133,7 @@ module _ (wing h years : ℕ) (bytes : List ℕ) where
         contentAgrees wing bytes h years ≡ true → SheetOf wing h years bytes
     unfolding contentAgrees stretchesTold rowsIn
     agrees-sheet years-told first-told rows-told index-offset rows-offset all offsets e =
-        let told : (i : ℕ) → i < years → YearTold i = λ i p. year-told i (at 0 years (λ i. yearAgrees wing bytes i (h + i)) e i (omega arith) (omega arith)) in
+        let told : (i : ℕ) → i < years → CalendarsYear i = λ i p. year-read i (at 0 years (λ i. yearAgrees wing bytes i (h + i)) e i (omega arith) (omega arith)) in
         record {
           years-told = years-told;
           first-told = first-told;

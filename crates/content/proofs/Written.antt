@@ -5,9 +5,9 @@ use Prim.Native.Nat.{ℕ, _+_, _*_, _≤_, _<_}
 use native.Mathlib.Omega.{arith}
 use lib.ListN.{length, getD}
 use Rattle.laws.specs.Joined.{joined}
-use Rattle.laws.proofs.Joins.{total-alike, total-more, total-grows}
+use Rattle.laws.proofs.Joins.{total-alike}
 use Rattle.layout.specs.Layout.{littleEndian, indexOffset, rowsOffset, headerBytes, entryBytes, rowBytes}
-use Rattle.layout.specs.Reading.{Bytes, numberAt}
+use Rattle.layout.specs.Reading.{Bytes}
 use Rattle.layout.proofs.Sizes.{header-long}
 use Rattle.layout.proofs.Standing.{Stands, stands-both, stands-each, stands-whole, stands-number, stands-three}
 use Rattle.newyear.specs.NewYear.{yearLength}
@@ -17,10 +17,10 @@ use Rattle.sheet.specs.Sheet.{rowOf, rowsIn, yearRows, rowsBefore, sheetSize, e
 use Rattle.sheet.specs.Promises.{offsetTold, rowsTold, lengthTold, rowsToldBefore, SheetOf}
 use Rattle.sheet.proofs.Sizes.{rows-long, index-long, years-long, front-long, sheet-long}
 use Rattle.sheet.proofs.Years.{rows-more, rows-grow}
-use Rattle.content.proofs.Told.{YearTold, sheet-tells}
+use Rattle.content.proofs.Told.{CalendarsYear, sheet-tells}
 
 module _ (wing h years : ℕ) (bytes : List ℕ) (all : Bytes bytes) (from : 1 ≤ h) (to : h + years ≤ 10000) (s : SheetOf wing h years bytes) where
-  told : (i : ℕ) → i < years → YearTold wing h years bytes i
+  told : (i : ℕ) → i < years → CalendarsYear wing h years bytes i
   told = sheet-tells wing h years bytes from to s
 
   before : (n : ℕ) → n ≤ years → rowsToldBefore bytes n ≡ rowsBefore wing h n

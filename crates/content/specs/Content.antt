@@ -2,9 +2,9 @@
 -- caller names. Everything is read where header and index say that it stands.
 use mathlib.Core.Bool.{Bool, _&&_}
 use mathlib.Core.List.{List}
-use Prim.Native.Nat.{ℕ, _+_, _*_, _≤_, _<_}
+use Prim.Native.Nat.{ℕ, _+_, _*_}
 use lib.Dec.{eqb}
-use lib.ListN.{length, getD}
+use lib.ListN.{getD}
 use Rattle.laws.specs.Runs.{every}
 use Rattle.layout.specs.Reading.{numberAt}
 use Rattle.newyear.specs.NewYear.{yearLength}
@@ -34,7 +34,3 @@ yearAgrees wing bytes i h =
 -- So it is of so many years, from year h on.
 unfoldable pub contentAgrees : ℕ → List ℕ → ℕ → ℕ → Bool
 contentAgrees wing bytes h years = every 0 years (λ i. yearAgrees wing bytes i (h + i))
-
--- What must be known of the bytes before they are compared: the rows of so many years lie within them.
-abbrev pub RowsWithin : List ℕ → ℕ → Type 0
-RowsWithin bytes years = (i : ℕ) → i < years → offsetTold bytes i + 6 * rowsTold bytes i ≤ length bytes

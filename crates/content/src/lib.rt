@@ -9,7 +9,8 @@ ghost use lib.ListN.{length as ListN·length};
 ghost use Rattle.newyear.specs.Spans.{Spans};
 ghost use Rattle.layout.specs.Layout.{rowsOffset};
 ghost use Rattle.sheet.specs.Promises.{offsetTold, rowsTold};
-ghost use Rattle.content.specs.Content.{rowAgrees, rowsAgree, yearAgrees, contentAgrees, RowsWithin};
+ghost use Rattle.content.specs.Content.{rowAgrees, rowsAgree, yearAgrees, contentAgrees};
+ghost use Rattle.content.specs.Steps.{RowsWithin};
 
 // Does the row at a place tell this first day and this length, and has it the wing's byte?
 fn row_agrees(wing: u64, sheet: &[u8], at: usize, first: u64, days: u64) -> bool
@@ -34,7 +35,7 @@ fn rows_agree(wing: u64, sheet: &[u8], at: usize, list: &[u64]) -> bool
     agree
 }
 
-// Are the length and the rows that the index' entry i tells of those of the year?
+// Are the length and the rows that entry i of the index tells of those of the year?
 fn year_agrees(wing: u64, sheet: &[u8], i: u64, span: newyear::Span) -> bool
     requires { ⌜ (Spans (span .year) span) × ((rowsOffset (i + 1) ≤ ListN·length (now sheet))
         × (offsetTold (now sheet) i + 6 * rowsTold (now sheet) i ≤ ListN·length (now sheet))) ⌝ }

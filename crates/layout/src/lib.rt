@@ -9,7 +9,7 @@ ghost use Prim.Native.Nat.{_+_, _≤_, _<_};
 ghost use lib.ListN.{length as ListN·length};
 ghost use lib.Seq.{sets};
 ghost use Rattle.layout.specs.Layout.{littleEndian, headerBytes, entryBytes, rowBytes};
-ghost use Rattle.layout.specs.Reading.{numberAt};
+ghost use Rattle.layout.specs.Reading.{Bytes, numberAt};
 
 fn put_one(out: &mut [u8], at: usize, x: u64)
     requires { ⌜ at + 1 ≤ ListN·length (now out) ⌝ }
@@ -71,6 +71,18 @@ fn wide(byte: u8) -> u64
     ensures { λ r. ⌜ (r ≡ byte) × (r < 256) ⌝ }
 {
     byte as u64
+}
+
+// That each number of a lent slice of bytes is below 256, which theorems ask of a list, said of every slice: by going
+// through it. Nothing is done there, and nobody needs to call it.
+pub fn all_bytes(bytes: &[u8])
+    ensures { λ _. ⌜ Bytes (now (bytes .entry)) ⌝ }
+{
+    let mut i = 0;
+    while i < bytes.len() {
+        wide(bytes[i]);
+        i += 1;
+    }
 }
 
 // A step: the number in one byte, in two, in four, from a place on.

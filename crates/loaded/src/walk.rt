@@ -67,8 +67,8 @@ pub fn step_at(sheet: &[u8], row: u64) -> Stepped
     }
 }
 
-// A step: where a walk through a wing's sheet begins. On bytes that are not accepted, refusals 15 to 19, it has ended
-// already.
+// A step: where a walk through a wing's sheet begins. Refused with 15 for the wing, or with 16 to 19 for the bytes, it has
+// ended already.
 pub fn first_row(wing: u64, sheet: &[u8]) -> Begun
     ensures { λ r. ⌜ r ≡ begunAt wing (now (sheet .entry)) ⌝ }
 {

@@ -22,8 +22,8 @@ fn no_rows(refusal: u64) -> RowsAnswer
     }
 }
 
-// The place of a year's rows in a wing's sheet. Refusals 15 to 19 for bytes that are not accepted; 1 for a year that is not on
-// the sheet.
+// The place of a year's rows in a wing's sheet. Refusal 15 for a wing that is neither 1 nor 2; 16 to 19 for bytes that are not
+// accepted; 1 for a year that is not on the sheet.
 pub fn rows_place(wing: u64, sheet: &[u8], year: u64) -> RowsAnswer
     ensures { λ r. ⌜ r ≡ rowsAnswer wing (now (sheet .entry)) year ⌝ }
 {
