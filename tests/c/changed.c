@@ -132,12 +132,12 @@ static void change_content(small_sheet *s)
     static const uint64_t steps[] = {1, 7, 354, 256, 65536}, lengths[] = {353, 354, 355, 383, 384, 385};
     uint8_t *rows = s->bytes + HEADER + ENTRY * s->years;
     uint8_t *row = rows + ROW * below((uint64_t)(s->bytes + ROOM - rows) / ROW);
-    uint64_t step = steps[below(COUNT(steps))];
+    uint64_t step = steps[below(COUNT(steps))], days = lengths[below(COUNT(lengths))];
     switch (below(4)) {
     case 0: grow(row, 4, below(2) ? step : 0 - step); break;
     case 1: row[4] = (uint8_t)below(5); break;
     case 2: row[5] = (uint8_t)below(4); break;
-    default: put_number(rows - ENTRY * (1 + below(s->years)) + 6, lengths[below(COUNT(lengths))], 2);
+    default: put_number(rows - ENTRY * (1 + below(s->years)) + 6, days, 2);
     }
 }
 
