@@ -13,3 +13,4 @@ pub mod Steps
 pub mod Answers
 pub mod RoundTrips
 pub mod Theorems
+pub mod Fixed

@@ -5,3 +5,4 @@ pub mod Good
 pub mod Answers
 pub mod Promises
 pub mod Steps
+pub mod Fixed

@@ -1,18 +1,18 @@
 -- What `molad` promises, and that its contract leaves one answer.
 use mathlib.Core.Path.{_≡_, refl, sym, _∙_}
 use mathlib.Core.Bool.{Bool, true, false, not, _&&_, and-false, false≢true}
-use mathlib.Core.List.{[], _∷_}
-use Prim.Native.Nat.{ℕ, _/_, _%_, _≤_}
+use Prim.Native.Nat.{ℕ}
 use native.Mathlib.Omega.{arith}
 use borrow.Author.Tests.{eqb-true, eq-eqb}
 use lib.Dec.{eqb}
-use Rattle.laws.specs.Promise.{_else_, Promised, Smallest}
+use Rattle.laws.specs.Promise.{Smallest}
 use Rattle.laws.proofs.One.{one-result}
 use Rattle.laws.proofs.Tests.{and-left}
 use Rattle.laws.proofs.Promises.{Catches, ranged, either, asks, answered, smallest}
-use Rattle.molad.specs.Years.{leap, lastYear, InYears}
+use Rattle.molad.specs.Years.{leap, lastYear}
 use Rattle.molad.specs.Molad.{IsMonth, noMonth, moladDay, moladTime}
 use Rattle.molad.specs.Answers.{noMolad, moladAnswer}
+use Rattle.molad.specs.Promises.{PromisedMolad}
 use Rattle.molad.specs.Steps.{IsMonths, IsMolad}
 use Rattle.molad.specs.declared.MoladAnswer.{MoladAnswer}
 use Rattle.molad.specs.declared.months.Months.{Months}
@@ -31,16 +31,8 @@ pub months-caught : (isLeap : Bool) (code : ℕ) → Catches (noMonth isLeap cod
 unfolding noMonth
 months-caught isLeap code = either (ranged 1 13 code) (adar-one isLeap code)
 
--- The hour is 0 to 23 and the part 0 to 1,079.
-pub molad-promised :
-    (h code : ℕ) →
-    Promised (λ (r : MoladAnswer). r .refusal) (InYears h else 1 ∷ IsMonth (leap h) code else 2 ∷ [])
-    (λ r.
-    ((r .day ≡ moladDay h code) × ((r .hour ≡ moladTime h code / 1080) × (r .part ≡ moladTime h code % 1080)))
-    × ((r .hour ≤ 23) × (r .part ≤ 1079)))
-    (λ n r. (r .day ≡ 0) × ((r .hour ≡ 0) × (r .part ≡ 0)))
-    (moladAnswer h code)
-unfolding moladAnswer moladTime
+pub molad-promised : (h code : ℕ) → PromisedMolad h code (moladAnswer h code)
+unfolding moladAnswer moladDay moladTime
 molad-promised h code =
     asks (noMolad 1) (ranged 1 lastYear h) (omega arith) refl (refl, (refl, refl)) (λ _.
     asks (noMolad 2) (months-caught (leap h) code) (omega arith) refl (refl, (refl, refl)) (λ _.

@@ -1,3 +1,4 @@
 pub mod Closed
 pub mod Answers
 pub mod InTurn
+pub mod Fixed

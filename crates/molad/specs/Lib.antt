@@ -2,4 +2,6 @@ pub mod Units
 pub mod Years
 pub mod Molad
 pub mod Answers
+pub mod Promises
 pub mod Steps
+pub mod Fixed

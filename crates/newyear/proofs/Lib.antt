@@ -6,3 +6,4 @@ pub mod YearOf
 pub mod Answers
 pub mod Fourteen
 pub mod Spanned
+pub mod Fixed

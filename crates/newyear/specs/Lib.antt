@@ -5,3 +5,4 @@ pub mod Answers
 pub mod Spans
 pub mod Steps
 pub mod Promises
+pub mod Fixed

@@ -3,3 +3,4 @@ pub mod Molad
 pub mod Late
 pub mod Same
 pub mod Answers
+pub mod Fixed

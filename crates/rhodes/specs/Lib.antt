@@ -1,3 +1,4 @@
 pub mod Rhodes
 pub mod Answers
 pub mod Steps
+pub mod Fixed
