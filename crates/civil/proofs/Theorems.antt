@@ -1,21 +1,20 @@
 -- What holds of the two calendars: each day has exactly one date, each good date comes back from its own day, the two
--- public questions answer each other, the first and the last day are document 01's dates; and the days of August, as
--- Rhodes' route counts them.
-use mathlib.Core.Path.{_≡_, refl, sym}
+-- public questions answer each other; and the days of August, as Rhodes' route counts them.
+use mathlib.Core.Path.{_≡_, refl}
 use mathlib.Core.Bool.{Bool, true, false, cond}
 use Prim.Native.Nat.{ℕ, _+_, _-_, _*_, _/_, _≤_}
 use native.Mathlib.Omega.{arith}
-use lib.IntN.{ℤ, pos, negsuc}
+use lib.IntN.{ℤ}
 use Rattle.days.specs.Range.{firstDay, lastDay, outOfRange}
-use Rattle.civil.specs.Calendar.{Calendar, julian, gregorian, julianLeap, gregorianLeap, monthDays, daysBefore, firstRaised, lastRaised, divisible, dayOf}
+use Rattle.civil.specs.Calendar.{julian, gregorian, monthDays, daysBefore, firstRaised, divisible, dayOf}
 use Rattle.civil.specs.Date.{Date, dateOf}
 use Rattle.civil.specs.Good.{day, GoodCivilDate, OneDate}
-use Rattle.civil.specs.Answers.{noDay, civilDay, civilDate}
+use Rattle.civil.specs.Answers.{civilDay, civilDate}
 use Rattle.civil.proofs.Years.{fourth}
-use Rattle.civil.proofs.Dates.{only-date, one-date, comes-back}
+use Rattle.civil.proofs.Dates.{one-date, comes-back}
 use Rattle.civil.proofs.RoundTrips.{there-and-back, back-and-there}
 use Rattle.civil.proofs.JulianYears.{julian-covers, julian-day}
-use Rattle.civil.proofs.GregorianYears.{gregorian-covers, gregorian-day}
+use Rattle.civil.proofs.GregorianYears.{gregorian-covers}
 
 pub julian-one-date : (j : ℕ) → firstDay ≤ j → j ≤ lastDay → OneDate julian j
 julian-one-date = one-date julian julian-covers
@@ -50,56 +49,6 @@ pub gregorian-back-and-there :
     (y : ℤ) (m d j : ℕ) → civilDay gregorian y m d ≡ record { refusal = 0; day = j } →
     civilDate gregorian j ≡ record { refusal = 0; year = y; month = m; day = d }
 gregorian-back-and-there = back-and-there gregorian gregorian-covers
-
-abbrev pub date : ℕ → ℕ → ℕ → Date
-date s m d = record { year = s; month = m; day = d }
-
-pub julian-first-date : dateOf julian firstDay ≡ date firstRaised 10 7
-unfolding monthDays daysBefore julianLeap
-julian-first-date =
-    sym (only-date julian julian-covers firstDay (omega arith) (date firstRaised 10 7) (omega arith) (julian-day 0 10 7))
-
-pub julian-last-date : dateOf julian lastDay ≡ date lastRaised 8 11
-unfolding monthDays daysBefore julianLeap
-julian-last-date =
-    sym (only-date julian julian-covers lastDay (omega arith) (date lastRaised 8 11) (omega arith) (julian-day 9999 8 11))
-
-pub gregorian-first-date : dateOf gregorian firstDay ≡ date firstRaised 9 7
-unfolding monthDays daysBefore gregorianLeap
-gregorian-first-date =
-    sym
-    (only-date gregorian gregorian-covers firstDay (omega arith) (date firstRaised 9 7) (omega arith)
-    (omega (arith, gregorian-day firstRaised 9 7 (omega arith))))
-
-pub gregorian-last-date : dateOf gregorian lastDay ≡ date lastRaised 9 25
-unfolding monthDays daysBefore gregorianLeap
-gregorian-last-date =
-    sym
-    (only-date gregorian gregorian-covers lastDay (omega arith) (date lastRaised 9 25) (omega arith)
-    (omega (arith, gregorian-day lastRaised 9 25 (omega arith))))
-
--- The same with signed years, as they are answered: −3760 is `negsuc 3759`.
-pub julian-first-answer : civilDate julian firstDay ≡ record { refusal = 0; year = negsuc 3759; month = 10; day = 7 }
-unfolding civilDate
-julian-first-answer = rw julian-first-date
-
-pub julian-last-answer : civilDate julian lastDay ≡ record { refusal = 0; year = pos 6239; month = 8; day = 11 }
-unfolding civilDate
-julian-last-answer = rw julian-last-date
-
-pub gregorian-first-answer : civilDate gregorian firstDay ≡ record { refusal = 0; year = negsuc 3759; month = 9; day = 7 }
-unfolding civilDate
-gregorian-first-answer = rw gregorian-first-date
-
-pub gregorian-last-answer : civilDate gregorian lastDay ≡ record { refusal = 0; year = pos 6239; month = 9; day = 25 }
-unfolding civilDate
-gregorian-last-answer = rw gregorian-last-date
-
--- Their years are the first and the last: those next to them are refused.
-pub years-end :
-    (cal : Calendar) (m d : ℕ) → (civilDay cal (negsuc 3760) m d ≡ noDay 5) × (civilDay cal (pos 6240) m d ≡ noDay 5)
-unfolding civilDay
-years-end cal m d = (refl, refl)
 
 -- Day d of August, counted on past 31, of the Julian year h − 3761.
 august-start : (leap : Bool) → daysBefore leap 8 ≡ 212 + cond leap 1 0

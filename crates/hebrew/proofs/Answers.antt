@@ -1,7 +1,7 @@
 -- What `month_length`, `hebrew_to_day` and `day_to_hebrew` promise; and that each contract leaves one answer, and each
 -- step one result.
 use mathlib.Core.Path.{_≡_, refl}
-use mathlib.Core.List.{List, [], _∷_}
+use mathlib.Core.List.{[], _∷_}
 use Prim.Native.Nat.{ℕ, _+_, _-_, _≤_}
 use native.Mathlib.Omega.{arith}
 use Rattle.laws.specs.Promise.{_else_, Promised, Smallest}
@@ -21,20 +21,6 @@ use Rattle.hebrew.specs.declared.HebrewDay.{HebrewDay}
 use Rattle.hebrew.specs.declared.HebrewDate.{HebrewDate}
 use Rattle.hebrew.specs.declared.date.YearDate.{YearDate}
 use Rattle.hebrew.proofs.Dates.{date-good, date-day}
-
--- The months from Tishri to Elul in a year of each length.
-pub month-table :
-    let months : ℕ → List ℕ = λ len.
-    monthLength len 1 ∷ monthLength len 2 ∷ monthLength len 3 ∷ monthLength len 4 ∷ monthLength len 5 ∷ monthLength len 6 ∷ monthLength len 7
-    ∷ monthLength len 8 ∷ monthLength len 9 ∷ monthLength len 10 ∷ monthLength len 11 ∷ monthLength len 12 ∷ monthLength len 13 ∷ [] in
-    ((months 353 ≡ 30 ∷ 29 ∷ 29 ∷ 29 ∷ 30 ∷ 0 ∷ 29 ∷ 30 ∷ 29 ∷ 30 ∷ 29 ∷ 30 ∷ 29 ∷ [])
-    × ((months 354 ≡ 30 ∷ 29 ∷ 30 ∷ 29 ∷ 30 ∷ 0 ∷ 29 ∷ 30 ∷ 29 ∷ 30 ∷ 29 ∷ 30 ∷ 29 ∷ [])
-    × (months 355 ≡ 30 ∷ 30 ∷ 30 ∷ 29 ∷ 30 ∷ 0 ∷ 29 ∷ 30 ∷ 29 ∷ 30 ∷ 29 ∷ 30 ∷ 29 ∷ [])))
-    × ((months 383 ≡ 30 ∷ 29 ∷ 29 ∷ 29 ∷ 30 ∷ 30 ∷ 29 ∷ 30 ∷ 29 ∷ 30 ∷ 29 ∷ 30 ∷ 29 ∷ [])
-    × ((months 384 ≡ 30 ∷ 29 ∷ 30 ∷ 29 ∷ 30 ∷ 30 ∷ 29 ∷ 30 ∷ 29 ∷ 30 ∷ 29 ∷ 30 ∷ 29 ∷ [])
-    × (months 385 ≡ 30 ∷ 30 ∷ 30 ∷ 29 ∷ 30 ∷ 30 ∷ 29 ∷ 30 ∷ 29 ∷ 30 ∷ 29 ∷ 30 ∷ 29 ∷ [])))
-unfolding monthLength
-month-table = ((refl, (refl, refl)), (refl, (refl, refl)))
 
 pub month-length-promised :
     (h code : ℕ) →

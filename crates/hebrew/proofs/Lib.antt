@@ -5,3 +5,4 @@ pub mod RoundTrip
 pub mod Weekdays
 pub mod Spanned
 pub mod Walked
+pub mod Fixed

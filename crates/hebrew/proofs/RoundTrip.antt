@@ -1,13 +1,8 @@
--- There and back by the public answers; and the Hebrew dates of the range's ends.
+-- There and back by the public answers.
 use mathlib.Core.Path.{_≡_, sym, _∙_, ap}
-use Prim.Native.Nat.{ℕ, _+_}
-use native.Mathlib.Omega.{arith}
+use Prim.Native.Nat.{ℕ}
 use Rattle.laws.proofs.Promises.{ranged, let-pass}
 use Rattle.days.specs.Range.{firstDay, lastDay, InRange}
-use Rattle.newyear.specs.NewYear.{newYear, yearLength}
-use Rattle.newyear.proofs.Quick.{quick, newYear-quick}
-use Rattle.newyear.proofs.YearOf.{first}
-use Rattle.hebrew.specs.Months.{monthLength, daysBefore}
 use Rattle.hebrew.specs.Dates.{Date, GoodHebrewDate, dayNumber, dateOf}
 use Rattle.hebrew.specs.Answers.{hebrewDay, hebrewDate, dated}
 use Rattle.hebrew.specs.declared.HebrewDay.{HebrewDay}
@@ -45,27 +40,3 @@ back-and-there h code d j e =
     let n : dayNumber x ≡ j = ap (λ (r : HebrewDay). r .day) (sym (good-answered x g) ∙ e) in
     let i = rw n at (day-in-range x g) in
     rw (let-pass (ranged firstDay lastDay j) i, rw n at (date-back x g))
-
--- The first day is 1 Tishri 1, the last 29 Elul 9999.
-first-good : GoodHebrewDate (record { year = 1; month = 1; day = 1 })
-unfolding monthLength
-first-good = record { of-years = omega arith; of-year = (omega arith, λ e. absurd (omega arith)); of-month = omega arith }
-
-pub first-date : dateOf firstDay ≡ record { year = 1; month = 1; day = 1 }
-unfolding dayNumber daysBefore monthLength
-first-date =
-    let e : newYear 1 + 0 + 0 ≡ firstDay = rw first (omega arith) in rw e at (date-back (record { year = 1; month = 1; day = 1 }) first-good)
-
-last-length : yearLength 9999 ≡ 353
-unfolding yearLength quick
-last-length = rw (newYear-quick 9999 (omega arith), newYear-quick 10000 (omega arith))
-
-last-good : GoodHebrewDate (record { year = 9999; month = 13; day = 29 })
-unfolding monthLength
-last-good = record { of-years = omega arith; of-year = (omega arith, λ e. absurd (omega arith)); of-month = omega arith }
-
-pub last-date : dateOf lastDay ≡ record { year = 9999; month = 13; day = 29 }
-unfolding dayNumber daysBefore monthLength quick
-last-date =
-    let y : newYear 9999 ≡ 3999723 = newYear-quick 9999 (omega arith) in
-    rw (last-length, y) at (date-back (record { year = 9999; month = 13; day = 29 }) last-good)

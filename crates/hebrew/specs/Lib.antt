@@ -3,3 +3,4 @@ pub mod Dates
 pub mod Weekdays
 pub mod Steps
 pub mod Answers
+pub mod Fixed

@@ -2,3 +2,4 @@ pub mod Answers
 pub mod Numbers
 pub mod Sizes
 pub mod Standing
+pub mod Fixed

@@ -1,7 +1,7 @@
 -- What `number_on_line` promises, and that its contract leaves one answer.
 use mathlib.Core.Path.{_≡_, refl, sym, ap, _∙_}
 use mathlib.Core.Bool.{Bool, true, false, cond, not, false≢true}
-use mathlib.Core.List.{List, [], _∷_, _++_}
+use mathlib.Core.List.{List, [], _∷_}
 use mathlib.Core.Logic.{_↔_}
 use Prim.Native.Nat.{ℕ, _≤_}
 use native.Mathlib.Omega.{arith}
@@ -65,13 +65,6 @@ by-figures input M nought = let line = firstLine input in rw (number-of line) (g
         M (cond b 0 (decimal line)) ↔ (IsNumber line × M (decimal line))
     go true c = (λ m. absurd (nought m), λ m. absurd (c .catches refl (m .0)))
     go false c = (λ m. (c .passes refl, m), λ m. m .1)
-
--- An example: "5762", with and without a line feed.
-pub line-5762 :
-    let line : List ℕ = 53 ∷ 55 ∷ 54 ∷ 50 ∷ [] in
-    (lineAnswer line ≡ record { refusal = 0; number = 5762 }) × (lineAnswer (line ++ 10 ∷ []) ≡ record { refusal = 0; number = 5762 })
-unfolding lineAnswer lineOf firstLine eachOf decimal
-line-5762 = (refl, refl)
 
 pub number-on-line-one : (input : List ℕ) (r s : LineAnswer) → r ≡ lineAnswer input → s ≡ lineAnswer input → r ≡ s
 number-on-line-one input = one-result (lineAnswer input)

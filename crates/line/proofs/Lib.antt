@@ -1,3 +1,4 @@
 pub mod Lines
 pub mod Enough
 pub mod Answers
+pub mod Fixed

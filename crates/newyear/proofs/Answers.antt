@@ -7,7 +7,7 @@ use native.Mathlib.Omega.{arith}
 use Rattle.laws.specs.Promise.{_else_, Promised}
 use Rattle.laws.proofs.Tests.{place-of}
 use Rattle.laws.proofs.One.{one-result}
-use Rattle.laws.proofs.Promises.{ranged, let-pass, asks, answered}
+use Rattle.laws.proofs.Promises.{ranged, asks, answered}
 use Rattle.days.specs.Range.{firstDay, lastDay, InRange}
 use Rattle.days.specs.Weekday.{weekday}
 use Rattle.molad.specs.Years.{lastYear, InYears, lastNewYear, InNewYears, outOfNewYears, leap, monthsIn}
@@ -26,7 +26,6 @@ use Rattle.newyear.specs.declared.YearOfDayAnswer.{YearOfDayAnswer}
 use Rattle.newyear.specs.declared.span.Span.{Span}
 use Rattle.newyear.proofs.Late.{explained}
 use Rattle.newyear.proofs.Lengths.{kind-in}
-use Rattle.newyear.proofs.Quick.{quickDelay, delayIn-quick}
 use Rattle.newyear.proofs.YearOf.{held}
 
 -- By either route: New Year comes after the molad by the delay, which has its cause.
@@ -66,22 +65,6 @@ unfolding yearAnswer yearLength monthsIn
 year-promised h =
     asks (record { refusal = 1; «new_year» = 0; weekday = 0; length = 0; months = 0; delay = 0; cause = 0 }) (ranged 1 lastYear h) (omega arith) refl (refl, (refl, (refl, (refl, (refl, refl))))) (λ _.
     answered refl ((refl, refl), ((refl, refl), because h)))
-
--- Year h is answered with cause c.
-abbrev HasCause : ℕ → ℕ → Type 0
-HasCause h c = (newYearAnswer h .refusal ≡ 0) × (newYearAnswer h .cause ≡ c)
-
-has-cause : (h c : ℕ) → InNewYears h → quickDelay h .cause ≡ c → HasCause h c
-unfolding newYearAnswer
-has-cause h c y e = rw (let-pass (ranged 1 lastNewYear h) y, delayIn-quick h (y .0)) (refl, e)
-
--- Each cause occurs, in these years among others.
-pub every-cause : ((HasCause 1 0 × HasCause 4 1) × (HasCause 2 2 × HasCause 3 3)) × (HasCause 7 4 × HasCause 75 5)
-unfolding quickDelay
-every-cause = (
-  ((has-cause 1 0 (omega arith) refl, has-cause 4 1 (omega arith) refl), (has-cause 2 2 (omega arith) refl, has-cause 3 3 (omega arith) refl)),
-  (has-cause 7 4 (omega arith) refl, has-cause 75 5 (omega arith) refl),
-)
 
 -- The kind told is one of the fourteen.
 pub kind-promised : (h : ℕ) → PromisedKind h (kindAnswer h)

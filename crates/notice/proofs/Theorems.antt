@@ -1,5 +1,4 @@
--- Of the answers: the notice and the molad are one instant; every day shown lies in the range but one; that notice, and
--- the warden's.
+-- Of the answers: the notice and the molad are one instant; every day shown lies in the range but one.
 use mathlib.Core.Path.{_≡_, refl}
 use mathlib.Core.Bool.{Bool, false, not, _&&_}
 use mathlib.Core.Logic.{by-cases}
@@ -11,8 +10,8 @@ use lib.Dec.{ltb}
 use Rattle.laws.proofs.Tests.{cond-le}
 use Rattle.days.specs.Range.{firstDay, lastDay}
 use Rattle.molad.specs.Units.{time}
-use Rattle.molad.specs.Years.{InYears, leap, monthsBefore, monthsTo}
-use Rattle.molad.specs.Molad.{IsMonth, noMonth, monthsOfYearBefore, moladAfter, moladParts, moladDay, moladTime}
+use Rattle.molad.specs.Years.{InYears, leap, monthsBefore}
+use Rattle.molad.specs.Molad.{IsMonth, monthsOfYearBefore, moladAfter, moladParts, moladDay, moladTime}
 use Rattle.molad.specs.Answers.{moladAnswer}
 use Rattle.molad.specs.declared.MoladAnswer.{MoladAnswer}
 use Rattle.molad.proofs.Answers.{molad-promised}
@@ -85,11 +84,3 @@ only-below h code r e z =
           let none : monthsBefore h + monthsOfYearBefore (leap h) code ≡ 0 = omega (arith, v .1, v .0 .1 .1 .1) in
           (omega (arith, c), first-code (leap h) code (met .1 .0 .0 .0) (met .1 .0 .0 .1) (omega arith)),
     )
-
-pub first-notice : noticeAnswer 1 1 ≡ record { refusal = 0; day = 347997; weekday = 1; hour = 23; minute = 11; part = 6 }
-unfolding noticeAnswer moladDay moladTime moladParts moladAfter monthsBefore monthsTo monthsOfYearBefore noMonth leap
-first-notice = refl
-
-pub wardens-notice : noticeAnswer 5762 1 ≡ record { refusal = 0; day = 2452170; weekday = 2; hour = 22; minute = 5; part = 16 }
-unfolding noticeAnswer moladDay moladTime moladParts moladAfter monthsOfYearBefore noMonth leap
-wardens-notice = rw (months-closed 5762 (omega arith))

@@ -50,6 +50,6 @@ module _ (h code : ℕ) (r : MoladAnswer) (e : r ≡ moladAnswer h code) where
         later = omega (arith, from-first-day h code);
         near = omega (arith, day-near h code (m .0) (m .1 .0));
         hour = rw e (v .0 .1 .0);
-        early = rw e (v .1 .0);
+        early = rw e (v .1 .0 .0);
         part = rw e (v .0 .1 .1);
       }

@@ -1,3 +1,4 @@
 pub mod Clock
 pub mod Answers
 pub mod Promises
+pub mod Fixed

@@ -26,7 +26,8 @@ use Rattle.molad.proofs.Answers.{months-caught}
 use Rattle.notice.specs.Answers.{noNotice, noticeAnswer}
 use Rattle.notice.specs.declared.NoticeAnswer.{NoticeAnswer}
 use Rattle.notice.proofs.Answers.{notice-promised}
-use Rattle.notice.proofs.Theorems.{only-below, first-notice}
+use Rattle.notice.proofs.Theorems.{only-below}
+use Rattle.notice.proofs.Fixed.{words-fixed}
 use Rattle.wording.specs.Answers.{noticeOn, noticeOnLines, firstShown, firstShownDate, shownDate}
 use Rattle.wording.specs.Promises.{MayBeShown, PromisedShownDate}
 
@@ -87,4 +88,4 @@ every-notice-dated h code r e z =
     (λ l. p .done .1 ((l, b .0), tt))
     (λ l.
     let first = b .1 (omega arith) in
-    absurd (omega (arith, ap (λ (x : NoticeAnswer). x .day) (rw (first .0, first .1, first-notice) at e))))
+    absurd (omega (arith, ap (λ (x : NoticeAnswer). x .day) (rw (first .0, first .1, words-fixed .first) at e))))
