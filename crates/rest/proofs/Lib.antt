@@ -6,3 +6,4 @@ pub mod RestOfYear
 pub mod Rows
 pub mod Tables
 pub mod Wings
+pub mod Fixed

@@ -4,3 +4,4 @@ pub mod Promises
 pub mod Steps
 pub mod Table
 pub mod Wings
+pub mod Fixed

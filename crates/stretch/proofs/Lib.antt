@@ -9,3 +9,4 @@ pub mod Theorems
 pub mod Walk
 pub mod WholeList
 pub mod Year
+pub mod Fixed
