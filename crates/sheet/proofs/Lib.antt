@@ -5,3 +5,4 @@ pub mod ReadBack
 pub mod Answers
 pub mod Windows
 pub mod Room
+pub mod Fixed

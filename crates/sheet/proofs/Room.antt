@@ -182,7 +182,7 @@ module _ (wing : ℕ) where
   unfolding sheetSize
   size-most h years l u p = omega (arith, rows-most h years l u p, bytes-of)
 
-  size-found : sheetSize wing mostFrom 100 ≡ mostBytes wing
+  pub size-found : sheetSize wing mostFrom 100 ≡ mostBytes wing
   unfolding sheetSize
   size-found = omega (arith, most-found, bytes-of)
 
