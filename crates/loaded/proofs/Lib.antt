@@ -4,3 +4,4 @@ pub mod Together
 pub mod Walks
 pub mod Written
 pub mod Exactly
+pub mod Fixed

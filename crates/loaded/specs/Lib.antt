@@ -2,3 +2,4 @@ pub mod Check
 pub mod Promises
 pub mod Rows
 pub mod Walk
+pub mod Fixed

@@ -50,13 +50,13 @@ nothing : (list : List ℕ) → Holds list 0 []
 nothing list = holds-first [] list
 
 -- The rows of year h, which begins on day n, the next year on day `next`.
-counted :
+pub counted :
     (wing h n next rows : ℕ) → IsWing wing → InYears h → newYear h ≡ n → newYear (h + 1) ≡ next →
     entriesOf (tableOf wing) (weekday n) (next - n) ≡ 2 * rows → rowsIn wing h ≡ rows
 unfolding rowsIn
 counted wing h n next rows w y e f c = omega (arith, long-from wing h n next w y e f, c)
 
-days : (h n next : ℕ) → newYear h ≡ n → newYear (h + 1) ≡ next → yearLength h ≡ next - n
+pub days : (h n next : ℕ) → newYear h ≡ n → newYear (h + 1) ≡ next → yearLength h ≡ next - n
 unfolding yearLength
 days h n next e f = rw (e, f)
 
