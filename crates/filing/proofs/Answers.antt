@@ -1,13 +1,12 @@
 -- What `sheet_on_lines` promises, and that its contract leaves one answer and one state of the lent bytes.
-use mathlib.Core.Path.{_≡_}
-use mathlib.Core.Bool.{cond}
-use mathlib.Core.List.{List, [], _∷_}
+use mathlib.Core.Path.{_≡_, refl, _∙_}
+use mathlib.Core.Bool.{false, cond}
+use mathlib.Core.List.{List}
 use mathlib.Core.Logic.{_↔_, ⊎-elim}
 use Prim.Native.Nat.{ℕ, _+_, _-_, _≤_}
 use native.Mathlib.Omega.{arith}
 use lib.Dec.{eqb}
 use lib.ListN.{length}
-use Rattle.laws.specs.Promise.{_else_, Promised}
 use Rattle.laws.specs.Buffer.{Lent}
 use Rattle.laws.proofs.One.{one-result}
 use Rattle.laws.proofs.Promises.{restated}
@@ -20,6 +19,7 @@ use Rattle.sheet.specs.Sheet.{mostYears, sheetSize, sheet}
 use Rattle.sheet.specs.Promises.{sheetRoom}
 use Rattle.sheet.proofs.Answers.{sheet-promised, sheet-lent}
 use Rattle.sheet.proofs.Room.{sheet-room}
+use Rattle.filing.specs.Promises.{secondLine, thirdLine, sheetOn, sizeOn, PromisedOnLines}
 use Rattle.filing.specs.Answers.{wingOn, firstYearOn, yearsOn, sheetOnLines, sheetOnLinesBuffer}
 
 -- What is asked of the second line goes by the number on the third.
@@ -33,35 +33,59 @@ first-year input y =
     rw (number-on-line-promised last .values (y, tt))
     (by-figures (afterLine input) (λ h. InYears h × InYears (h + decimal (firstLine last) - 1)) (λ m. omega (arith, m .0 .0)))
 
--- Done exactly if the first line holds a wing, the third 1 to 100 years, the second a year from which on they lie inside,
--- and the lent bytes are enough.
-pub sheet-on-lines-promised :
-    (input buffer : List ℕ) → let first = firstLine input in
-    let second = firstLine (afterLine input) in
-    let third = firstLine (afterLine (afterLine input)) in
-    let size = sheetSize (wingOn input) (firstYearOn input) (yearsOn input) in
-    Promised (λ (r : ListAnswer). r .refusal)
-    ((IsNumber first × IsWing (decimal first)) else 15
-    ∷ (IsNumber third × ((1 ≤ decimal third) × (decimal third ≤ mostYears))) else 11
-    ∷ (IsNumber second × (InYears (decimal second) × InYears (decimal second + decimal third - 1))) else 1
-    ∷ (size ≤ length buffer) else 10
-    ∷ [])
-    (λ r. r .count ≡ size)
-    (λ n r. r .count ≡ cond (eqb n 10) size 0)
-    (sheetOnLines input buffer)
+-- Where all three lines hold numbers, these are what is passed on.
+module _ (input : List ℕ) (wing : IsNumber (firstLine input)) (year : IsNumber (secondLine input)) (years : IsNumber (thirdLine input)) where
+  passed-on : {A : Type 0} (f : ℕ → ℕ → ℕ → A) → f (wingOn input) (firstYearOn input) (yearsOn input) ≡ f (decimal (firstLine input)) (decimal (secondLine input)) (decimal (thirdLine input))
+  passed-on f =
+      rw (
+        number-on-line-promised input .values (wing, tt),
+        number-on-line-promised (afterLine input) .values (year, tt),
+        number-on-line-promised (afterLine (afterLine input)) .values (years, tt),
+      )
+
+  same-size : sheetSize (wingOn input) (firstYearOn input) (yearsOn input) ≡ sizeOn input
+  same-size = passed-on sheetSize
+
+  same-room : (room : ℕ) → (sheetSize (wingOn input) (firstYearOn input) (yearsOn input) ≤ room) ↔ (sizeOn input ≤ room)
+  same-room room = (λ p. rw (← same-size) p, λ p. rw same-size p)
+
+-- A refusal that is not 10 tells no size.
+no-size : (k n a b : ℕ) → k ≡ n → eqb k 10 ≡ false → cond (eqb n 10) a 0 ≡ cond (eqb n 10) b 0
+no-size k n a b e f = rw (← e, f)
+
+pub sheet-on-lines-promised : (input buffer : List ℕ) → PromisedOnLines input buffer (sheetOnLines input buffer)
 unfolding sheetOnLines
 sheet-on-lines-promised input buffer =
-    restated (by-figures input IsWing (⊎-elim (λ e. omega arith) (λ e. omega arith))) (λ _.
+    let p =
+    restated (by-figures input IsWing (⊎-elim (λ e. omega arith) (λ e. omega arith))) (λ w.
     restated (by-figures (afterLine (afterLine input)) (λ n. (1 ≤ n) × (n ≤ mostYears)) (λ m. omega (arith, m .0))) (λ y.
-    restated (first-year input (y .0)) (λ _ p. p)))
+    restated (first-year input (y .0)) (λ h.
+    restated (same-room input (w .0) (h .0) (y .0) (length buffer)) (λ _ p. p))))
     (sheet-promised (wingOn input) (firstYearOn input) (yearsOn input) buffer)
+    in
+    record {
+      done = p .done;
+      values = λ m. p .values m ∙ same-size input (m .0 .0) (m .1 .1 .0 .0) (m .1 .0 .0);
+      refused = p .refused;
+      besides = λ n u.
+          p .besides n u
+          ∙ ⊎-elim (λ v. no-size 15 n _ _ (v .1) refl) (λ w.
+          ⊎-elim (λ v. no-size 11 n _ _ (v .1) refl) (λ y.
+          ⊎-elim (λ v. no-size 1 n _ _ (v .1) refl) (λ h. rw (same-size input (w .0 .0) (h .0 .0) (y .0 .0))) (y .1)) (w .1)) u;
+    }
 
 module _ (input buffer : List ℕ) where
   -- Done, the lent bytes begin with the sheet, and those beyond it are as they were; refused, all are.
-  pub sheet-on-lines-lent :
-      Lent (sheetOnLines input buffer .refusal) (sheet (wingOn input) (firstYearOn input) (yearsOn input)) buffer (sheetOnLinesBuffer input buffer)
+  pub sheet-on-lines-lent : Lent (sheetOnLines input buffer .refusal) (sheetOn input) buffer (sheetOnLinesBuffer input buffer)
   unfolding sheetOnLines sheetOnLinesBuffer
-  sheet-on-lines-lent = sheet-lent (wingOn input) (firstYearOn input) (yearsOn input) buffer
+  sheet-on-lines-lent =
+      let lent = sheet-lent (wingOn input) (firstYearOn input) (yearsOn input) buffer in
+      record {
+        untouched = lent .untouched;
+        written = λ z.
+            let met = sheet-on-lines-promised input buffer .done .0 z in
+            rw (passed-on input (met .0 .0) (met .1 .1 .0 .0) (met .1 .0 .0) sheet) at (lent .written z);
+      }
 
   -- The bytes that are told as written stand in the lent ones.
   pub written-in-room : sheetOnLines input buffer .refusal ≡ 0 → sheetOnLines input buffer .count ≤ length buffer
