@@ -1,3 +1,4 @@
 pub mod Numbers
 pub mod Enough
 pub mod Answers
+pub mod Fixed
