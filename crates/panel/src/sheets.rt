@@ -1,8 +1,6 @@
 // The sheet that the panels load, written and read back. The lent bytes are as their owner's contract leaves them.
 ghost use mathlib.Core.Path.{_≡_};
-ghost use Rattle.sheet.specs.Answers.{wingSheet, wingSheetBuffer};
-ghost use Rattle.loaded.specs.Rows.{rowsAnswer, namedAnswer};
-ghost use Rattle.loaded.specs.Walk.{begunAt, rowGiven, rowAfter};
+ghost use Rattle.panel.specs.Face.{bdSheetWrite, bdSheetWriteLeaves, bdSheetRows, bdSheetsRows, bdWalkBegin, bdWalkNext};
 
 #[no_mangle]
 pub extern "C" fn bd_sheet_write(
@@ -11,7 +9,7 @@ pub extern "C" fn bd_sheet_write(
     years: u64,
     out: &mut [u8],
 ) -> rest::ListAnswer
-    ensures { λ r. ⌜ (r ≡ wingSheet wing «first_year» years (now (out .entry))) × (now (out .exit) ≡ wingSheetBuffer wing «first_year» years (now (out .entry))) ⌝ }
+    ensures { λ r. ⌜ (r ≡ bdSheetWrite wing «first_year» years (now (out .entry))) × (now (out .exit) ≡ bdSheetWriteLeaves wing «first_year» years (now (out .entry))) ⌝ }
 {
     sheet::sheet_write(wing, first_year, years, out)
 }
@@ -19,7 +17,7 @@ pub extern "C" fn bd_sheet_write(
 // A loaded sheet, as its bytes lie in the caller's memory: where a year's rows stand in it.
 #[no_mangle]
 pub extern "C" fn bd_sheet_rows(wing: u64, sheet: &[u8], year: u64) -> loaded::RowsAnswer
-    ensures { λ r. ⌜ r ≡ rowsAnswer wing (now (sheet .entry)) year ⌝ }
+    ensures { λ r. ⌜ r ≡ bdSheetRows wing (now (sheet .entry)) year ⌝ }
 {
     loaded::rows_place(wing, sheet, year)
 }
@@ -31,7 +29,7 @@ pub extern "C" fn bd_sheets_rows(
     sheet_2: &[u8],
     year: u64,
 ) -> loaded::RowsAnswer
-    ensures { λ r. ⌜ r ≡ namedAnswer named (now («sheet_1» .entry)) (now («sheet_2» .entry)) year ⌝ }
+    ensures { λ r. ⌜ r ≡ bdSheetsRows named (now («sheet_1» .entry)) (now («sheet_2» .entry)) year ⌝ }
 {
     loaded::sheets_place(named, sheet_1, sheet_2, year)
 }
@@ -39,7 +37,7 @@ pub extern "C" fn bd_sheets_rows(
 // The caller holds the walker, whose state is the number of the row that comes next, and lends the sheet at each call.
 #[no_mangle]
 pub extern "C" fn bd_walk_begin(walker: &mut u64, wing: u64, sheet: &[u8]) -> u64
-    ensures { λ n. ⌜ (n ≡ begunAt wing (now (sheet .entry)) .refusal) × (now (walker .exit) ≡ begunAt wing (now (sheet .entry)) .row) ⌝ }
+    ensures { λ n. ⌜ (n ≡ bdWalkBegin wing (now (sheet .entry)) .refusal) × (now (walker .exit) ≡ bdWalkBegin wing (now (sheet .entry)) .row) ⌝ }
 {
     let b = loaded::first_row(wing, sheet);
     *walker = b.row;
@@ -48,7 +46,7 @@ pub extern "C" fn bd_walk_begin(walker: &mut u64, wing: u64, sheet: &[u8]) -> u6
 
 #[no_mangle]
 pub extern "C" fn bd_walk_next(walker: &mut u64, sheet: &[u8]) -> loaded::Row
-    ensures { λ r. ⌜ (r ≡ rowGiven (now (sheet .entry)) (now (walker .entry))) × (now (walker .exit) ≡ rowAfter (now (sheet .entry)) (now (walker .entry))) ⌝ }
+    ensures { λ r. ⌜ (r ≡ bdWalkNext (now (walker .entry)) (now (sheet .entry)) .row) × (now (walker .exit) ≡ bdWalkNext (now (walker .entry)) (now (sheet .entry)) .next) ⌝ }
 {
     let s = loaded::step_at(sheet, *walker);
     *walker = s.next;
