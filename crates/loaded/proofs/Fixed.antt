@@ -78,6 +78,12 @@ words-fixed =
       walk = (
         begins 1 5775 1 (inl refl) (omega arith) (omega arith) (omega arith) (omega arith),
         begins 2 5775 3 (inr refl) (omega arith) (omega arith) (omega arith) (omega arith),
-        refl, refl, refl, refl, refl, refl, refl,
+        refl,
+        refl,
+        refl,
+        refl,
+        refl,
+        refl,
+        refl,
       );
     }
