@@ -7,9 +7,9 @@ use Rattle.molad.specs.Units.{partsInDay}
 use Rattle.molad.specs.Years.{leap, monthsBefore}
 use Rattle.molad.specs.Molad.{moladAfter, moladParts, moladDay, moladTime, monthsOfYearBefore, noMonth}
 use Rattle.molad.proofs.Closed.{months-closed}
-use Rattle.newyear.specs.Delays.{delayed, tuesdayRule, mondayRule, fromNoon, closed}
+use Rattle.delays.specs.Delays.{delayed, tuesdayRule, mondayRule, fromNoon, closed}
+use Rattle.delays.specs.declared.Delayed.{Delayed}
 use Rattle.newyear.specs.NewYear.{delayIn, newYear}
-use Rattle.newyear.specs.declared.delays.Delayed.{Delayed}
 
 -- No month of a year comes before Tishri.
 tishri-parts : (h : ℕ) → moladParts h 1 ≡ moladAfter (monthsBefore h)

@@ -8,7 +8,7 @@ use Prim.Native.Nat.{ℕ, _+_, _%_}
 use lib.Dec.{eqb, ltb, leb}
 use Rattle.laws.specs.Runs.{elem}
 use Rattle.molad.specs.Units.{time}
-use Rattle.newyear.specs.declared.delays.Delayed.{Delayed}
+use Rattle.delays.specs.declared.Delayed.{Delayed}
 
 -- Noon, where the day begins at 18:00: 18h 0p.
 abbrev pub noon : ℕ

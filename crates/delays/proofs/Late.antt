@@ -1,5 +1,4 @@
--- What the delays do: each rule begins and ends at its very limits, and each cause comes exactly where its rule applies,
--- with its own days.
+-- What the delays do: each cause comes exactly where its rule applies, with its own days.
 use mathlib.Core.Path.{_≡_, refl, sym, _∙_}
 use mathlib.Core.Bool.{Bool, true, false, _&&_, not, Bool·beq}
 use mathlib.Core.List.{List, [], _∷_}
@@ -12,28 +11,9 @@ use lib.ListN.{getD}
 use borrow.Author.Tests.{eq-eqb, eqb-true, lt-ltb, le-ltb, ltb-true, ltb-false, le-leb, lt-leb, leb-true, not-true}
 use Rattle.laws.specs.Runs.{every, eitherWay, elem}
 use Rattle.laws.proofs.Tests.{and-left, and-right, at, whether, all, Each, facts, beq-true}
-use Rattle.molad.specs.Units.{time}
-use Rattle.newyear.specs.Delays.{fromNoon, closed, tuesdayRule, mondayRule, byRules, delayed}
-use Rattle.newyear.specs.Promises.{Explained}
-use Rattle.newyear.specs.declared.delays.Delayed.{Delayed}
-
--- So many days, and this cause.
-abbrev Gives : Delayed → ℕ → ℕ → Type 0
-Gives late days cause = (late .delay ≡ days) × (late .cause ≡ cause)
-
--- On the part of a limit and on the part before it: on a Monday in a year after a leap year, on a Tuesday in a common
--- year, and on a Monday and a Sunday where neither rule applies.
-pub at-the-limits :
-    (b : Bool) →
-    ((Gives (delayed 2 (time 15 588) b true) 0 0 × Gives (delayed 2 (time 15 589) b true) 1 5)
-    × (Gives (delayed 2 (time 17 1079) b true) 1 5 × Gives (delayed 2 (time 18 0) b true) 1 1))
-    × (((Gives (delayed 3 (time 9 203) false b) 0 0 × Gives (delayed 3 (time 9 204) false b) 2 4)
-    × (Gives (delayed 3 (time 17 1079) false b) 2 4 × Gives (delayed 3 (time 18 0) false b) 2 3))
-    × ((Gives (delayed 2 (time 17 1079) b false) 0 0 × Gives (delayed 2 (time 18 0) b false) 1 1)
-    × (Gives (delayed 1 (time 17 1079) b false) 1 2 × Gives (delayed 1 (time 18 0) b false) 1 1)))
-unfolding delayed tuesdayRule mondayRule fromNoon closed
-at-the-limits true = ((((refl, refl), (refl, refl)), ((refl, refl), (refl, refl))), ((((refl, refl), (refl, refl)), ((refl, refl), (refl, refl))), (((refl, refl), (refl, refl)), ((refl, refl), (refl, refl)))))
-at-the-limits false = ((((refl, refl), (refl, refl)), ((refl, refl), (refl, refl))), ((((refl, refl), (refl, refl)), ((refl, refl), (refl, refl))), (((refl, refl), (refl, refl)), ((refl, refl), (refl, refl)))))
+use Rattle.delays.specs.Delays.{fromNoon, closed, tuesdayRule, mondayRule, byRules, delayed}
+use Rattle.delays.specs.Promises.{Explained}
+use Rattle.delays.specs.declared.Delayed.{Delayed}
 
 -- Two delays with the same days and the same cause.
 unfoldable pub alike : Delayed → Delayed → Bool
@@ -50,7 +30,7 @@ abbrev pub byTimes : ℕ → Bool → Bool → Bool → Bool → Bool → Delaye
 byTimes w common afterLeap nine fifteen beforeNoon =
     byRules (common && eqb w 3 && nine && beforeNoon) (afterLeap && eqb w 2 && fifteen && beforeNoon) (not beforeNoon) (closed (w + 1)) (closed w)
 
-noon-or-before : (t : ℕ) → leb 19440 t ≡ not (ltb t 19440)
+pub noon-or-before : (t : ℕ) → leb 19440 t ≡ not (ltb t 19440)
 noon-or-before t =
     by-cases (decLt t 19440)
     (λ p. rw (lt-ltb t 19440 p, lt-leb 19440 t p))
