@@ -19,8 +19,8 @@ use Rattle.rest.proofs.Wings.{wings}
 use Rattle.sheet.specs.Sheet.{mostYears}
 use Rattle.sheet.specs.Promises.{offsetTold, rowsTold, rowsToldBefore}
 use Rattle.content.proofs.Told.{sheet-agrees, agrees-sheet}
-use Rattle.loaded.specs.Check.{yearsTold, firstTold, countTold, indexTold, rowsAtTold, strangeYears, entryPlaced, indexPlaced, placed, differs, ofLoaded, loadedRefusal}
-use Rattle.loaded.specs.Promises.{WritersYears, Placed, OfCalendar, askedOfLoaded, PromisedRefusal}
+use Rattle.accepted.specs.Check.{yearsTold, firstTold, countTold, indexTold, rowsAtTold, strangeYears, entryPlaced, indexPlaced, placed, differs, ofLoaded, loadedRefusal}
+use Rattle.accepted.specs.Promises.{WritersYears, Placed, OfCalendar, askedOfLoaded, PromisedRefusal}
 
 -- One number tells what is given.
 by-number :

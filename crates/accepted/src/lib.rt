@@ -1,4 +1,10 @@
-// Are the bytes accepted for a wing's sheet?
+// Are bytes accepted for a wing's sheet?
+//
+// A panel holds the bytes of a sheet as they were loaded, and nothing is known of them. So before anything is taken out they
+// must be enough for a header, the header must name years that a sheet can have, header, index and size must fit each other
+// to the byte, and year lengths, rows and wing bytes must be the calendar's for the wing that the caller names. They pass
+// exactly if a writer could have written them for that wing (theorem `accepted-exactly`). Every number that is read off a
+// sheet is at most 4 bytes long and is worked with in 64 bits, so that no sum and no product of them wraps.
 ghost use mathlib.Core.Path.{_≡_};
 ghost use mathlib.Core.Bool.{_&&_};
 ghost use Prim.Native.Nat.{_≤_};
@@ -6,7 +12,7 @@ ghost use lib.Dec.{eqb};
 ghost use lib.ListN.{length as ListN·length};
 ghost use Rattle.layout.specs.Layout.{rowsOffset};
 ghost use Rattle.sheet.specs.Promises.{rowsToldBefore};
-ghost use Rattle.loaded.specs.Check.{yearsTold, indexPlaced, placed, loadedRefusal};
+ghost use Rattle.accepted.specs.Check.{yearsTold, indexPlaced, placed, loadedRefusal};
 
 // Does the index lead each year to the rows behind those of the years before it, and has it so many rows in all?
 fn index_placed(sheet: &[u8], years: u64, rows: u64) -> bool

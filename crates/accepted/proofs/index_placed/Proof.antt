@@ -8,9 +8,9 @@ use Rattle.laws.specs.Joined.{total}
 use Rattle.laws.proofs.Tests.{every-more}
 use Rattle.laws.proofs.Joins.{total-more}
 use Rattle.sheet.specs.Promises.{offsetTold, rowsTold, rowsToldBefore}
-use Rattle.loaded.specs.Check.{entryPlaced, indexPlaced}
-use Rattle.loaded.proofs.check.index_placed.Statement.{statement}
-use Rattle.loaded.proofs.check.index_placed.Tie as tie
+use Rattle.accepted.specs.Check.{entryPlaced, indexPlaced}
+use Rattle.accepted.proofs.index_placed.Statement.{statement}
+use Rattle.accepted.proofs.index_placed.Tie as tie
 
 abbrev Inv-loop : tie.InvT-loop
 Inv-loop sheet years rows placed₀ before₀ i₀ placed before i =

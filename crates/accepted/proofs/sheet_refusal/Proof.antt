@@ -11,10 +11,10 @@ use Rattle.layout.specs.Reading.{numberAt}
 use Rattle.rest.specs.Wings.{outOfWings}
 use Rattle.sheet.specs.Sheet.{mostYears}
 use Rattle.sheet.specs.Answers.{endsOutside}
-use Rattle.loaded.specs.Check.{placed, differs, loadedRefusal}
-use Rattle.loaded.proofs.Accepted.{strange, all-fit, rows-inside}
-use Rattle.loaded.proofs.check.sheet_refusal.Statement.{statement}
-use Rattle.loaded.proofs.check.sheet_refusal.Tie as tie
+use Rattle.accepted.specs.Check.{placed, differs, loadedRefusal}
+use Rattle.accepted.proofs.Accepted.{strange, all-fit, rows-inside}
+use Rattle.accepted.proofs.sheet_refusal.Statement.{statement}
+use Rattle.accepted.proofs.sheet_refusal.Tie as tie
 
 -- What the tests passed say: there is such a wing, there are bytes enough, and the years may be a writer's.
 winged : (c : tie.Else1) → outOfWings (c .before .before .before .args .wing) ≡ false

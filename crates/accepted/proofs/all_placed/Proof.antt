@@ -6,9 +6,9 @@ use native.Mathlib.Omega.{arith}
 use borrow.Author.Tests.{eq-eqb, ne-eqb}
 use lib.ListN.{length}
 use Rattle.layout.specs.Reading.{numberAt}
-use Rattle.loaded.specs.Check.{indexPlaced, placed}
-use Rattle.loaded.proofs.check.all_placed.Statement.{statement}
-use Rattle.loaded.proofs.check.all_placed.Tie as tie
+use Rattle.accepted.specs.Check.{indexPlaced, placed}
+use Rattle.accepted.proofs.all_placed.Statement.{statement}
+use Rattle.accepted.proofs.all_placed.Tie as tie
 
 -- The code asks for the sum of rows behind the index, and for the size before both.
 sum-first : (index sum : Bool) → index && sum ≡ sum && (index && true)
