@@ -15,7 +15,7 @@ use Rattle.hebrew.specs.Months.{monthLength, daysBefore}
 use Rattle.hebrew.specs.Dates.{monthOf}
 use Rattle.hebrew.specs.Steps.{yearDate, tomorrow}
 use Rattle.rest.specs.Wings.{IsWing, tableOf}
-use Rattle.stretch.proofs.OfKind.{entries}
+use Rattle.stretches.proofs.OfKind.{entries}
 use Rattle.layout.specs.Layout.{rowsOffset}
 use Rattle.layout.specs.Reading.{worth, numberAt}
 use Rattle.sheet.specs.Sheet.{mostYears, rowsIn, rowsBefore, sheet}

@@ -9,7 +9,7 @@ use Rattle.laws.proofs.Joins.{held-part, joined-alike, joined-rows}
 use Rattle.layout.specs.Layout.{rowsOffset}
 use Rattle.layout.specs.Reading.{Bytes}
 use Rattle.rest.specs.Wings.{IsWing, tableOf}
-use Rattle.stretch.specs.Stretches.{stretchRows}
+use Rattle.stretches.specs.Stretches.{stretchRows}
 use Rattle.sheet.specs.Sheet.{mostYears, rowsIn, yearRows, rowsBefore, sheet}
 use Rattle.sheet.specs.Answers.{wingSheet, wingSheetBuffer}
 use Rattle.sheet.specs.Promises.{SheetOf}

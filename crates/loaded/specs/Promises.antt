@@ -8,7 +8,7 @@ use Rattle.laws.specs.Promise.{Asked, _else_, Promised}
 use Rattle.layout.specs.Reading.{numberAt}
 use Rattle.molad.specs.Years.{InYears}
 use Rattle.rest.specs.Wings.{IsWing, tableOf}
-use Rattle.stretch.specs.Stretches.{stretchRows}
+use Rattle.stretches.specs.Stretches.{stretchRows}
 use Rattle.sheet.specs.Sheet.{mostYears, yearRows, rowsBefore, sheet}
 use Rattle.sheet.specs.Promises.{offsetTold, rowsTold, rowsToldBefore, SheetOf}
 use Rattle.accepted.specs.Check.{loadedRefusal}

@@ -28,7 +28,7 @@ use Rattle.hebrew.specs.Steps.{yearDate, tomorrow}
 use Rattle.rest.specs.Table.{restTable, guestTable}
 use Rattle.rest.specs.Wings.{IsWing, tableOf}
 use Rattle.rest.proofs.Passed.{tables-pass}
-use Rattle.stretch.proofs.OfKind.{entries, entriesOf, long-by-kind}
+use Rattle.stretches.proofs.OfKind.{entries, entriesOf, long-by-kind}
 use Rattle.sheet.specs.Sheet.{mostYears, rowsIn, rowsBefore, sheetSize}
 use Rattle.sheet.specs.Answers.{wingSheet}
 use Rattle.sheet.specs.Promises.{askedOfSheet, mostBytes, sheetRoom}

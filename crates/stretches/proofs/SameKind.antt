@@ -10,11 +10,11 @@ use Rattle.newyear.specs.Promises.{OneKind}
 use Rattle.newyear.proofs.Fourteen.{alike}
 use Rattle.rest.specs.Wings.{tableOf}
 use Rattle.rest.proofs.Passed.{tables-pass}
-use Rattle.stretch.specs.Stretches.{stretchRows}
-use Rattle.stretch.specs.Promises.{countedFrom}
-use Rattle.stretch.specs.Answers.{wingStretches, wingStretchesBuffer}
-use Rattle.stretch.proofs.OfKind.{stretches-by-kind, long-by-kind}
-use Rattle.stretch.proofs.Answers.{stretches-promised, stretches-lent}
+use Rattle.stretches.specs.Stretches.{stretchRows}
+use Rattle.stretches.specs.Promises.{countedFrom}
+use Rattle.stretches.specs.Answers.{wingStretches, wingStretchesBuffer}
+use Rattle.stretches.proofs.OfKind.{stretches-by-kind, long-by-kind}
+use Rattle.stretches.proofs.Answers.{stretches-promised, stretches-lent}
 
 module _ (wing : ℕ) where
   -- What the call writes for year h.

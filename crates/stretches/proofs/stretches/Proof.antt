@@ -13,9 +13,9 @@ use Rattle.newyear.proofs.Spanned.{spans-own}
 use Rattle.rest.specs.Wings.{outOfWings, tableOf}
 use Rattle.rest.specs.Answers.{listAnswer, listBuffer}
 use Rattle.rest.proofs.Refused.{list-refused, list-passed}
-use Rattle.stretch.specs.Stretches.{stretchRows}
-use Rattle.stretch.proofs.stretches.Statement.{statement}
-use Rattle.stretch.proofs.stretches.Tie as tie
+use Rattle.stretches.specs.Stretches.{stretchRows}
+use Rattle.stretches.proofs.stretches.Statement.{statement}
+use Rattle.stretches.proofs.stretches.Tie as tie
 
 returns : tie.Need-returns
 unfolding listAnswer listBuffer

@@ -5,9 +5,9 @@ use Rattle.newyear.specs.Kinds.{kindOf}
 use Rattle.newyear.proofs.Lengths.{kind-in}
 use Rattle.rest.specs.Wings.{tableOf}
 use Rattle.rest.proofs.Passed.{tables-pass}
-use Rattle.stretch.proofs.Ended.{stretches-same}
-use Rattle.stretch.proofs.year_rows.Statement.{statement}
-use Rattle.stretch.proofs.year_rows.Tie as tie
+use Rattle.stretches.proofs.Ended.{stretches-same}
+use Rattle.stretches.proofs.year_rows.Statement.{statement}
+use Rattle.stretches.proofs.year_rows.Tie as tie
 
 write-rows-requires : tie.Need-write-rows-requires
 unfolding kindOf

@@ -6,8 +6,8 @@ ghost use Rattle.laws.specs.Buffer.{overwrite};
 ghost use Rattle.newyear.specs.Kinds.{IsLength, kindCode, IsKind};
 ghost use Rattle.rest.specs.Wings.{tableOf};
 ghost use Rattle.rest.specs.Steps.{restAt};
-ghost use Rattle.stretch.specs.Promises.{stretchesRoom};
-ghost use Rattle.stretch.specs.Steps.{rowsAt};
+ghost use Rattle.stretches.specs.Promises.{stretchesRoom};
+ghost use Rattle.stretches.specs.Steps.{rowsAt};
 
 // First day and length of each run of the wing's rest days of the year that begins on day `new_year`, over the start of a
 // buffer that has room for those of any year; and how many entries they take. A run is written when it has ended.

@@ -14,13 +14,13 @@ use Rattle.hebrew.specs.Steps.{yearDate}
 use Rattle.hebrew.proofs.Walked.{tomorrow-is}
 use Rattle.rest.specs.Wings.{tableOf}
 use Rattle.rest.specs.Steps.{restAt}
-use Rattle.stretch.specs.Promises.{stretchesRoom}
-use Rattle.stretch.specs.Steps.{runBefore, rowsAt}
-use Rattle.stretch.proofs.Growing.{ends, run-more, run-few, rows-yes, rows-no, rows-grow}
-use Rattle.stretch.proofs.OfKind.{rows-in-room}
+use Rattle.stretches.specs.Promises.{stretchesRoom}
+use Rattle.stretches.specs.Steps.{runBefore, rowsAt}
+use Rattle.stretches.proofs.Growing.{ends, run-more, run-few, rows-yes, rows-no, rows-grow}
+use Rattle.stretches.proofs.OfKind.{rows-in-room}
 use Rattle.stretch.proofs.Walk.{walked-small, walked-rests}
-use Rattle.stretch.proofs.lists.write_rows.Statement.{statement}
-use Rattle.stretch.proofs.lists.write_rows.Tie as tie
+use Rattle.stretches.proofs.lists.write_rows.Statement.{statement}
+use Rattle.stretches.proofs.lists.write_rows.Tie as tie
 
 abbrev Inv-loop : tie.InvT-loop
 Inv-loop wing weekday newYear length out₀ n₀ run₀ date₀ out n run date =

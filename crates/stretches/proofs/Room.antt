@@ -12,11 +12,11 @@ use Rattle.newyear.specs.NewYear.{newYear, yearLength}
 use Rattle.newyear.proofs.Quick.{quick, newYear-quick}
 use Rattle.rest.specs.Wings.{IsWing, tableOf}
 use Rattle.rest.proofs.Passed.{tables-pass}
-use Rattle.stretch.specs.Stretches.{stretchRows}
-use Rattle.stretch.specs.Promises.{mostStretches, stretchesRoom, askedOfYear}
-use Rattle.stretch.specs.Answers.{wingStretches}
-use Rattle.stretch.proofs.OfKind.{as-many, most-in-room, long-by-kind, few}
-use Rattle.stretch.proofs.Answers.{stretches-promised}
+use Rattle.stretches.specs.Stretches.{stretchRows}
+use Rattle.stretches.specs.Promises.{mostStretches, stretchesRoom, askedOfYear}
+use Rattle.stretches.specs.Answers.{wingStretches}
+use Rattle.stretches.proofs.OfKind.{as-many, most-in-room, long-by-kind, few}
+use Rattle.stretches.proofs.Answers.{stretches-promised}
 
 -- Year 8 has 383 days, and New Year on a Monday.
 year-8 : (weekday (newYear 8) ≡ 2) × (yearLength 8 ≡ 383)

@@ -9,7 +9,7 @@ use lib.Dec.{ltb}
 use lib.ListN.{length, length-append}
 use Rattle.laws.specs.Search.{runStart}
 use Rattle.laws.proofs.Found.{start-tells}
-use Rattle.stretch.specs.Steps.{runBefore, rowsAt}
+use Rattle.stretches.specs.Steps.{runBefore, rowsAt}
 
 module _ (rest : ℕ → Bool) where
   -- A run has ended on the day before day k.

@@ -13,10 +13,10 @@ use Rattle.laws.specs.Search.{Run, runStart}
 use Rattle.laws.proofs.Found.{start-tells, run-start}
 use Rattle.newyear.proofs.Lengths.{length-in}
 use Rattle.rest.proofs.RestOfYear.{eve-works, last-day-works}
-use Rattle.stretch.specs.Stretches.{begins, rowAt, rows, stretchRows}
-use Rattle.stretch.specs.Steps.{runBefore, rowsAt}
+use Rattle.stretches.specs.Stretches.{begins, rowAt, rows, stretchRows}
+use Rattle.stretches.specs.Steps.{runBefore, rowsAt}
 use Rattle.stretch.proofs.Year.{TableYear, rest, start, len, here, placed}
-use Rattle.stretch.proofs.WholeList.{first-row}
+use Rattle.stretches.proofs.WholeList.{first-row}
 
 module _ (y : TableYear) where
   -- The day before a day of the year.

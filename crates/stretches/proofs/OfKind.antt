@@ -26,12 +26,12 @@ use Rattle.rest.specs.Wings.{tableOf}
 use Rattle.rest.specs.Check.{passes}
 use Rattle.rest.specs.Steps.{restOn, restAt}
 use Rattle.rest.proofs.Passed.{tables-pass}
-use Rattle.stretch.specs.Stretches.{stretchRows}
-use Rattle.stretch.specs.Steps.{runBefore, rowsAt}
-use Rattle.stretch.specs.Promises.{countedFrom, rowsOfKind, mostStretches, stretchesRoom}
-use Rattle.stretch.proofs.Growing.{ends, run-few, run-more, rows-yes, rows-no}
-use Rattle.stretch.proofs.WholeList.{Pairs, none, more, both, one-row}
-use Rattle.stretch.proofs.Ended.{stretches-same}
+use Rattle.stretches.specs.Stretches.{stretchRows}
+use Rattle.stretches.specs.Steps.{runBefore, rowsAt}
+use Rattle.stretches.specs.Promises.{countedFrom, rowsOfKind, mostStretches, stretchesRoom}
+use Rattle.stretches.proofs.Growing.{ends, run-few, run-more, rows-yes, rows-no}
+use Rattle.stretches.proofs.WholeList.{Pairs, none, more, both, one-row}
+use Rattle.stretches.proofs.Ended.{stretches-same}
 
 counted-more : (j : ℕ) {l : List ℕ} (m : List ℕ) → Pairs l → countedFrom j (l ++ m) ≡ countedFrom j l ++ countedFrom j m
 unfolding countedFrom

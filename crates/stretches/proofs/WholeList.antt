@@ -17,9 +17,10 @@ use Rattle.newyear.proofs.Lengths.{rises}
 use Rattle.rest.specs.Table.{restDay}
 use Rattle.rest.specs.Check.{passes}
 use Rattle.rest.proofs.RestOfYear.{rest-in-range}
-use Rattle.stretch.specs.Stretches.{daysFrom, begins, rowAt, rows, stretchRows}
-use Rattle.stretch.specs.Promises.{Listed, here, there, FirstDaysRise, StretchesOf}
+use Rattle.stretch.specs.Stretches.{daysFrom}
+use Rattle.stretches.specs.Stretches.{begins, rowAt, rows, stretchRows}
+use Rattle.stretches.specs.Promises.{Listed, here, there, FirstDaysRise, StretchesOf}
 use Rattle.stretch.proofs.Theorems.{ends-in-range, around}
 
 -- The entries come in pairs.
 pub data Pairs : List ℕ → Type 0 where
