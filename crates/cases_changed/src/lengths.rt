@@ -9,7 +9,7 @@ fn refused(wing: u64, bytes: &[u8], refusal: u64) -> u64 {
     let mut count = 0;
     let mut n = 0;
     while n < bytes.len() {
-        count += is(loaded::sheet_refusal(wing, &bytes[..n]), refusal);
+        count += is(accepted::sheet_refusal(wing, &bytes[..n]), refusal);
         n += 1;
     }
     count

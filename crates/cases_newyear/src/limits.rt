@@ -21,7 +21,7 @@ fn delay(weekday: u64, hour: u64, part: u64, leap: bool, after_leap: bool)
     flag(leap, b" leap");
     flag(after_leap, b" after leap");
     text(b" ->");
-    let late = newyear::delay(weekday, 1080 * hour + part, leap, after_leap);
+    let late = delays::delay(weekday, 1080 * hour + part, leap, after_leap);
     number(late.delay);
     number(late.cause);
     end();

@@ -82,7 +82,7 @@ fn listed(of_stretches: bool, answer: rest::ListAnswer) -> u64 {
 fn ask(of_stretches: bool, wing: u64, year: u64, out: &mut [u64]) -> rest::ListAnswer {
     if of_stretches {
         text(b"stretches");
-        stretch::stretches(wing, year, out)
+        stretches::stretches(wing, year, out)
     } else {
         text(b"rest days");
         rest::rest_days(wing, year, out)

@@ -43,7 +43,7 @@ fn with_lists(sum: u64, wing: u64, year: u64) -> u64 {
     let mut days = [0u64; 140];
     let mut runs = [0u64; 140];
     let rest_days = rest::rest_days(wing, year, &mut days);
-    let stretches = stretch::stretches(wing, year, &mut runs);
+    let stretches = stretches::stretches(wing, year, &mut runs);
     let by_days = with_entries(mixed(mixed(sum, rest_days.refusal), rest_days.count), &days);
     with_entries(
         mixed(mixed(by_days, stretches.refusal), stretches.count),

@@ -27,8 +27,8 @@ use Rattle.hebrew.specs.Steps.{yearDate, tomorrow}
 use Rattle.rest.specs.Table.{restTable, guestTable}
 use Rattle.rest.specs.Wings.{tableOf}
 use Rattle.rest.proofs.Passed.{tables-pass}
-use Rattle.stretch.specs.Stretches.{stretchRows}
-use Rattle.stretch.proofs.OfKind.{entries, entriesOf, long-by-kind}
+use Rattle.stretches.specs.Stretches.{stretchRows}
+use Rattle.stretches.proofs.OfKind.{entries, entriesOf, long-by-kind}
 use Rattle.counts.specs.Counts.{oneCounts, guestCounts, countOf, countIn}
 use Rattle.counts.specs.Promises.{countFrom, mostCount, mostFrom, Counted}
 use Rattle.counts.proofs.Windows.{sumOf, sum-taken, slide, slide-tells}

@@ -7,7 +7,7 @@ use lib.ListN.{length}
 use Rattle.laws.specs.Joined.{total}
 use Rattle.molad.specs.Years.{InYears}
 use Rattle.rest.specs.Wings.{tableOf}
-use Rattle.stretch.specs.Stretches.{stretchRows}
+use Rattle.stretches.specs.Stretches.{stretchRows}
 use Rattle.counts.specs.Counts.{countIn}
 
 -- The stretches of the n years from year h on.
