@@ -13,44 +13,52 @@ pub struct Answer {
     pub of: [u64; FIELDS],
 }
 
-impl Answer {
-    // No field: the question is not understood.
-    pub fn none() -> Answer {
-        Answer {
-            count: 0,
-            signed: FIELDS,
-            of: [0; FIELDS],
-        }
+// No field: the question is not understood.
+pub fn no_answer() -> Answer {
+    Answer {
+        count: 0,
+        signed: FIELDS,
+        of: [0; FIELDS],
     }
+}
 
-    // With one field more.
-    pub fn and(self, number: u64) -> Answer {
-        let at = self.count;
-        let mut of = self.of;
-        if at < FIELDS {
-            of[at] = number;
+pub fn fields(numbers: &[u64]) -> Answer {
+    let mut of = [0; FIELDS];
+    let mut count = 0;
+    while count < FIELDS {
+        if numbers.len() <= count {
             return Answer {
-                count: at + 1,
-                signed: self.signed,
+                count,
+                signed: FIELDS,
                 of,
             };
         }
-        Answer::none()
+        of[count] = numbers[count];
+        count += 1;
     }
+    Answer {
+        count,
+        signed: FIELDS,
+        of,
+    }
+}
 
-    pub fn and_signed(self, number: i64) -> Answer {
-        let magnitude = show::magnitude(number);
-        let more = self.and(laws::pick(
-            number < 0,
-            std::num::wrapping_sub_u64(0, magnitude),
-            magnitude,
-        ));
-        let of = more.of;
-        Answer {
-            count: more.count,
-            signed: self.count,
-            of,
-        }
+// As it stands in a field.
+pub fn bits(number: i64) -> u64 {
+    let magnitude = show::magnitude(number);
+    if number < 0 {
+        return std::num::wrapping_sub_u64(0, magnitude);
+    }
+    magnitude
+}
+
+// The same with a field that has a sign.
+pub fn signed_field(answer: Answer, at: usize) -> Answer {
+    let of = answer.of;
+    Answer {
+        count: answer.count,
+        signed: at,
+        of,
     }
 }
 

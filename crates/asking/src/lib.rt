@@ -7,6 +7,11 @@ mod quoted;
 
 pub use answer::Answer;
 pub use answer::FIELDS;
+pub use answer::bits;
+pub use answer::fields;
+pub use answer::no_answer;
+pub use answer::print;
+pub use answer::signed_field;
 pub use numbers::MOST;
 pub use numbers::Numbers;
 pub use numbers::Signed;
@@ -51,4 +56,9 @@ pub fn is(word: &[u8], name: &[u8]) -> bool {
         i += 1;
     }
     true
+}
+
+// The question has this name and so many numbers.
+pub fn asks(name: &[u8], numbers: Numbers, wanted: &[u8], count: usize) -> bool {
+    is(name, wanted) & are(numbers, count)
 }
