@@ -28,7 +28,7 @@ use asking::asks;
 pub use held::Held;
 pub use held::ROOM;
 use held::long;
-use held::sheet_of;
+pub use held::sheet_of;
 
 // Questions that leave the sheet as it is.
 fn read<'a>(name: &[u8], numbers: Numbers, sheet: &'a [u8], other: &'a [u8]) -> bool {
