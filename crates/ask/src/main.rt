@@ -11,7 +11,7 @@ use line::LINE_END;
 
 const HASH: u8 = 35;
 
-// More than any line needs; what is longer is read on as the next line.
+// A line of so many bytes or more is not understood.
 const LONGEST: usize = 1000;
 
 fn is_heading(line: &[u8]) -> bool {
@@ -45,13 +45,36 @@ fn answer(line: &[u8], one: &mut [u8], two: &mut [u8], held: Held) -> Held {
     after
 }
 
-// One line without its line feed.
+// False at the end of a line or of the input.
+fn passes_byte() -> bool {
+    let mut byte = [0u8; 1];
+    let n = reading::read_lines(1, &mut byte);
+    (n == 1) & (byte[0] != LINE_END)
+}
+
+// A proved loop has to end, and nothing says that a line does, or the input. So both loops count down, from a number that
+// no run uses up.
+fn pass_line() {
+    let mut turns = u64::MAX;
+    while 0 < turns {
+        if !passes_byte() {
+            return;
+        }
+        turns -= 1;
+    }
+}
+
+// The first bytes of a line.
 fn turn(space: &[u8], one: &mut [u8], two: &mut [u8], held: Held) -> Held {
     let n = bytes::scan::find(space, 0, space.len(), LINE_END);
+    if n == LONGEST {
+        pass_line();
+        asking::print(asking::no_answer());
+        return held;
+    }
     answer(ask_sheets::sheet_of(space, n), one, two, held)
 }
 
-// A proved loop has to end, and nothing says that the input does: so it counts down from a number that no run uses up.
 fn answer_all(one: &mut [u8], two: &mut [u8]) {
     let mut held = Held {
         understood: true,
