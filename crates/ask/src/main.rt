@@ -1,7 +1,7 @@
 // Reads questions, one to a line of standard input, and answers each.
 //
 // A line that begins with # is written out as it is. A line that is no question, or has too few, too many or bad words, is
-// answered `not understood`. The questions are told in ask_days, ask_rest and ask_sheets; pages.rt has those of the
+// answered `not understood`. The questions are told in ask_runs, ask_rest and ask_loaded; pages.rt has those of the
 // programs' pages.
 mod pages;
 
@@ -38,9 +38,9 @@ fn answer(line: &[u8], one: &mut [u8], two: &mut [u8], held: Held) -> Held {
     if answered(line) {
         return held;
     }
-    let after = ask_sheets::answered(line, one, two, held);
+    let after = ask_loaded::answered(line, one, two, held);
     if !after.understood {
-        asking::print(ask_days::answer(line));
+        asking::print(ask_runs::answer(line));
     }
     after
 }

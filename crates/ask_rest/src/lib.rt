@@ -118,17 +118,18 @@ fn print_sum(wing: u64, first: u64, last: u64) -> bool {
 pub fn answered(line: &[u8]) -> bool {
     let name = asking::first_word(line);
     let numbers = asking::read_numbers(asking::later_words(line));
+    let count = asking::count_of(numbers);
     let n = numbers.of;
-    if asks(name, numbers, b"sum_lists", 3) {
+    if asks(name, count, b"sum_lists", 3) {
         return print_sum(n[0], n[1], n[2]);
     }
     if 140 < n[2] {
         return false;
     }
-    if asks(name, numbers, b"rest_days", 3) {
+    if asks(name, count, b"rest_days", 3) {
         return print_list(false, n[0], n[1], n[2] as usize);
     }
-    if asks(name, numbers, b"stretches", 3) {
+    if asks(name, count, b"stretches", 3) {
         return print_list(true, n[0], n[1], n[2] as usize);
     }
     false

@@ -87,7 +87,7 @@ pub fn with_length(length: usize, held: Held) -> Held {
 }
 
 // The same, told.
-pub fn long(length: usize, held: Held) -> Held {
+fn long(length: usize, held: Held) -> Held {
     plain(length as u64);
     end();
     with_length(length, held)
@@ -199,10 +199,21 @@ fn exchange_byte(at: usize, one: &mut [u8], two: &mut [u8]) {
     }
 }
 
-pub fn exchange(one: &mut [u8], two: &mut [u8]) {
+fn exchange_bytes(one: &mut [u8], two: &mut [u8]) {
     let mut i = 0;
     while i < ROOM {
         exchange_byte(i, one, two);
         i += 1;
+    }
+}
+
+pub fn exchange(one: &mut [u8], two: &mut [u8], held: Held) -> Held {
+    exchange_bytes(one, two);
+    plain(held.other as u64);
+    end();
+    Held {
+        understood: true,
+        length: held.other,
+        other: held.length,
     }
 }

@@ -15,7 +15,7 @@ pub use answer::signed_field;
 pub use numbers::MOST;
 pub use numbers::Numbers;
 pub use numbers::Signed;
-pub use numbers::are;
+pub use numbers::count_of;
 pub use numbers::read_numbers;
 pub use numbers::with_sign;
 pub use quoted::TEXT_ROOM;
@@ -58,7 +58,7 @@ pub fn is(word: &[u8], name: &[u8]) -> bool {
     true
 }
 
-// The question has this name and so many numbers.
-pub fn asks(name: &[u8], numbers: Numbers, wanted: &[u8], count: usize) -> bool {
-    is(name, wanted) & are(numbers, count)
+// The question has this name, and as many numbers as it takes.
+pub fn asks(name: &[u8], count: usize, wanted: &[u8], takes: usize) -> bool {
+    is(name, wanted) & (count == takes)
 }

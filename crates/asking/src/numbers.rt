@@ -124,9 +124,12 @@ pub fn read_numbers(words: &[u8]) -> Numbers {
     numbers
 }
 
-// So many numbers, none below 0.
-pub fn are(numbers: Numbers, count: usize) -> bool {
-    (numbers.good & !numbers.minus) & (numbers.count == count)
+// How many numbers there are; more than a question may have, if one is bad or below 0.
+pub fn count_of(numbers: Numbers) -> usize {
+    if numbers.good & !numbers.minus {
+        return numbers.count;
+    }
+    MOST + 1
 }
 
 pub struct Signed {
