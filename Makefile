@@ -1,5 +1,5 @@
 # make help lists what can be asked for; README.md has the rest.
-.PHONY: help year notice sheet sheet-show test check quick panel lib install uninstall clean
+.PHONY: help year notice sheet sheet-show ask test check quick panel lib install uninstall clean
 
 # The lines of README.md that begin with make.
 help:
@@ -36,6 +36,10 @@ sheet-show:
 # Without a WING, wing 1; without a DATE, today. CC names another compiler, for x86-64 Linux.
 panel:
 	@examples/run panel "$${WING-1}" "$${DATE-today}" "$${TIME-}" "$${SUNSET-}"
+
+# The file whose lines are asked; without a FILE, what is typed.
+ask:
+	@tools/ask $${FILE:+"$$FILE"}
 
 test check:
 	bash .ci/run

@@ -1,0 +1,30 @@
+use borrow.Author.Needs.{needs}
+use Prim.Native.Nat.{_≤_, _-_}
+use Rattle.asking.proofs.answer.print.Statement.{statement}
+use Rattle.asking.proofs.answer.print.Tie as tie
+
+abbrev Inv-loop : tie.InvT-loop
+Inv-loop answer of i₀ t5 i = i ≤ 10
+
+abbrev μ-loop : tie.MeasureT-loop
+μ-loop answer of i₀ t5 i = 10 - i
+
+pub print-spec : {M : Type 1} → statement M
+print-spec =
+    tie.close
+    (tie.spec
+    Inv-loop
+    μ-loop
+    (search needs)
+    (search needs)
+    (search needs)
+    (search needs)
+    (search needs)
+    (search needs)
+    (search needs)
+    (search needs)
+    (search needs)
+    (search needs)
+    (search needs)
+    (search needs)
+    (search needs))
