@@ -1,7 +1,7 @@
 // Reads questions, one to a line of standard input, and answers each.
 //
 // A line that begins with # is written out as it is. A line that is no question, or has too few, too many or bad words, is
-// answered `not understood`. The questions are told in ask_runs, ask_rest and ask_loaded; pages.rt has those of the
+// answered `not understood`. The questions are told in ask_calls, ask_lists and ask_sheets; pages.rt has those of the
 // programs' pages.
 mod pages;
 
@@ -21,26 +21,25 @@ fn is_heading(line: &[u8]) -> bool {
     false
 }
 
-// A heading, or a question that no sheet is needed for.
-fn answered(line: &[u8]) -> bool {
-    if is_heading(line) {
-        show::text(line);
-        show::end();
-        return true;
-    }
-    if ask_rest::answered(line) {
-        return true;
-    }
-    pages::answered(line)
+fn print_heading(line: &[u8]) {
+    show::text(line);
+    show::end();
 }
 
 fn answer(line: &[u8], one: &mut [u8], two: &mut [u8], held: Held) -> Held {
-    if answered(line) {
+    if is_heading(line) {
+        print_heading(line);
         return held;
     }
-    let after = ask_loaded::answered(line, one, two, held);
+    let name = asking::first_word(line);
+    let words = asking::later_words(line);
+    let numbers = asking::read_numbers(words);
+    if ask_lists::answered(name, numbers) | pages::answered(name, words) {
+        return held;
+    }
+    let after = ask_sheets::answered(name, numbers, one, two, held);
     if !after.understood {
-        asking::print(ask_runs::answer(line));
+        asking::print(ask_calls::answer(line));
     }
     after
 }
@@ -78,6 +77,7 @@ fn turn(space: &[u8], one: &mut [u8], two: &mut [u8], held: Held) -> Held {
 fn answer_all(one: &mut [u8], two: &mut [u8]) {
     let mut held = Held {
         understood: true,
+        exchanged: false,
         length: 0,
         other: 0,
     };

@@ -55,7 +55,7 @@ fn print_items(sheet: &[u8], from: usize, items: u64, bytes: usize, widths: &[u8
 }
 
 // As many entries and rows as the header tells, from where it tells.
-pub fn print_fields(sheet: &[u8]) -> bool {
+pub fn print(sheet: &[u8]) -> bool {
     print_items(sheet, 0, 1, 16, b"\x02\x02\x04\x04\x04");
     print_items(
         sheet,

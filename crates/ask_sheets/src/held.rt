@@ -5,13 +5,14 @@ use show::end;
 use show::mixed;
 use show::number;
 use show::plain;
-use show::text;
 
 // A little more than the largest sheet has.
 pub const ROOM: usize = 34_660;
 
 pub struct Held {
     pub understood: bool,
+    // Whether the sheet stands in the second buffer, and the other one in the first.
+    pub exchanged: bool,
     // How many bytes the sheet has, and how many the other one.
     pub length: usize,
     pub other: usize,
@@ -62,16 +63,16 @@ fn print_bytes(out: &[u8], written: u64) {
         kept += laws::pick(!is_written & (out[i] == pattern(i)), 1, 0);
         i += 1;
     }
-    text(b":");
-    number(sum);
-    text(b"; kept");
-    number(kept);
+    show::named(b":", sum);
+    show::named(b"; kept", kept);
     end();
 }
 
-pub fn not_understood(held: Held) -> Held {
+// Nothing is changed.
+pub fn unless(understood: bool, held: Held) -> Held {
     Held {
-        understood: false,
+        understood,
+        exchanged: held.exchanged,
         length: held.length,
         other: held.other,
     }
@@ -81,13 +82,14 @@ pub fn not_understood(held: Held) -> Held {
 pub fn with_length(length: usize, held: Held) -> Held {
     Held {
         understood: true,
+        exchanged: held.exchanged,
         length,
         other: held.other,
     }
 }
 
 // The same, told.
-fn long(length: usize, held: Held) -> Held {
+pub fn long(length: usize, held: Held) -> Held {
     plain(length as u64);
     end();
     with_length(length, held)
@@ -116,7 +118,7 @@ pub fn write(
     held: Held,
 ) -> Held {
     if (space.len() as u64) < room {
-        return not_understood(held);
+        return unless(false, held);
     }
     let bytes = written(wing, first_year, years, room as usize, space);
     with_length(bytes as usize, held)
@@ -128,20 +130,20 @@ fn put_byte(at: usize, byte: u8, out: &mut [u8]) {
     }
 }
 
-// Noughts from one place to before another.
-fn clear(from: usize, to: usize, out: &mut [u8]) {
+// The bytes from one place to before another; beyond the end of `other` there are noughts.
+fn copy_bytes(from: usize, to: usize, other: &[u8], out: &mut [u8]) {
     let mut i = from;
     while i < to {
-        put_byte(i, 0, out);
+        put_byte(i, byte_at(other, i), out);
         i += 1;
     }
 }
 
 pub fn lengthen(to: u64, out: &mut [u8], held: Held) -> Held {
     if (out.len() as u64) < to {
-        return not_understood(held);
+        return unless(false, held);
     }
-    clear(held.length, to as usize, out);
+    copy_bytes(held.length, to as usize, b"", out);
     long(to as usize, held)
 }
 
@@ -161,59 +163,22 @@ fn put_bytes(at: usize, bytes: u64, number: u64, out: &mut [u8]) {
 
 pub fn put(at: u64, bytes: u64, number: u64, out: &mut [u8], held: Held) -> Held {
     if 34_660 < at {
-        return not_understood(held);
+        return unless(false, held);
     }
     if 8 < bytes {
-        return not_understood(held);
+        return unless(false, held);
     }
     if (held.length as u64) < at + bytes {
-        return not_understood(held);
+        return unless(false, held);
     }
     put_bytes(at as usize, bytes, number, out);
     long(held.length, held)
 }
 
-fn copy_bytes(from: usize, to: usize, other: &[u8], out: &mut [u8]) {
-    let mut i = from;
-    while i < to {
-        put_byte(i, byte_at(other, i), out);
-        i += 1;
-    }
-}
-
 pub fn copy(from: u64, to: u64, other: &[u8], out: &mut [u8], held: Held) -> Held {
     if (held.length as u64) < to {
-        return not_understood(held);
+        return unless(false, held);
     }
     copy_bytes(from as usize, to as usize, other, out);
     long(held.length, held)
-}
-
-fn exchange_byte(at: usize, one: &mut [u8], two: &mut [u8]) {
-    if at < one.len() {
-        if at < two.len() {
-            let byte = one[at];
-            one[at] = two[at];
-            two[at] = byte;
-        }
-    }
-}
-
-fn exchange_bytes(one: &mut [u8], two: &mut [u8]) {
-    let mut i = 0;
-    while i < ROOM {
-        exchange_byte(i, one, two);
-        i += 1;
-    }
-}
-
-pub fn exchange(one: &mut [u8], two: &mut [u8], held: Held) -> Held {
-    exchange_bytes(one, two);
-    plain(held.other as u64);
-    end();
-    Held {
-        understood: true,
-        length: held.other,
-        other: held.length,
-    }
 }

@@ -1,5 +1,4 @@
 // The numbers of an answer, in the order of its fields, and how they are printed.
-use show::end;
 use show::plain;
 use show::text;
 
@@ -8,8 +7,7 @@ pub const FIELDS: usize = 10;
 
 pub struct Answer {
     pub count: usize,
-    // Which field has a sign, if it is one of these: a number below 0 stands there as 2^64 less.
-    pub signed: usize,
+    // A number below 0 stands there as 2^64 less.
     pub of: [u64; FIELDS],
 }
 
@@ -17,7 +15,6 @@ pub struct Answer {
 pub fn no_answer() -> Answer {
     Answer {
         count: 0,
-        signed: FIELDS,
         of: [0; FIELDS],
     }
 }
@@ -27,20 +24,12 @@ pub fn fields(numbers: &[u64]) -> Answer {
     let mut count = 0;
     while count < FIELDS {
         if numbers.len() <= count {
-            return Answer {
-                count,
-                signed: FIELDS,
-                of,
-            };
+            return Answer { count, of };
         }
         of[count] = numbers[count];
         count += 1;
     }
-    Answer {
-        count,
-        signed: FIELDS,
-        of,
-    }
+    Answer { count, of }
 }
 
 // As it stands in a field.
@@ -52,18 +41,11 @@ pub fn bits(number: i64) -> u64 {
     magnitude
 }
 
-// The same with a field that has a sign.
-pub fn signed_field(answer: Answer, at: usize) -> Answer {
-    let of = answer.of;
-    Answer {
-        count: answer.count,
-        signed: at,
-        of,
+fn print_field(i: usize, number: u64) {
+    if 0 < i {
+        text(b" ");
     }
-}
-
-fn print_field(number: u64, signed: bool) {
-    if signed & (9_223_372_036_854_775_807 < number) {
+    if 9_223_372_036_854_775_807 < number {
         text(b"-");
         plain(std::num::wrapping_sub_u64(0, number));
     } else {
@@ -80,12 +62,9 @@ pub fn print(answer: Answer) {
     let mut i = 0;
     while i < FIELDS {
         if i < answer.count {
-            if 0 < i {
-                text(b" ");
-            }
-            print_field(of[i], i == answer.signed);
+            print_field(i, of[i]);
         }
         i += 1;
     }
-    end();
+    show::end();
 }

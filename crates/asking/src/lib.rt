@@ -1,9 +1,8 @@
-// A question is a line of words, one blank apart: a name, then its numbers or a text in quotes. An answer is numbers.
+// A question is a line of words, one blank apart: a name, then numbers. An answer is numbers.
 ghost use Rattle.io.specs.Counts.{Counts};
 
 mod answer;
 mod numbers;
-mod quoted;
 
 pub use answer::Answer;
 pub use answer::FIELDS;
@@ -11,16 +10,11 @@ pub use answer::bits;
 pub use answer::fields;
 pub use answer::no_answer;
 pub use answer::print;
-pub use answer::signed_field;
 pub use numbers::MOST;
 pub use numbers::Numbers;
 pub use numbers::Signed;
-pub use numbers::count_of;
+pub use numbers::first_signed;
 pub use numbers::read_numbers;
-pub use numbers::with_sign;
-pub use quoted::TEXT_ROOM;
-pub use quoted::Text;
-pub use quoted::read_text;
 
 pub const BLANK: u8 = 32;
 
@@ -44,7 +38,7 @@ pub fn later_words<'a>(words: &'a [u8]) -> &'a [u8] {
     &words[n..]
 }
 
-pub fn is(word: &[u8], name: &[u8]) -> bool {
+fn is(word: &[u8], name: &[u8]) -> bool {
     if word.len() != name.len() {
         return false;
     }
@@ -58,7 +52,31 @@ pub fn is(word: &[u8], name: &[u8]) -> bool {
     true
 }
 
-// The question has this name, and as many numbers as it takes.
-pub fn asks(name: &[u8], count: usize, wanted: &[u8], takes: usize) -> bool {
-    is(name, wanted) & (count == takes)
+// The place of a name, from 0, among names one blank apart.
+pub fn place(names: &[u8], name: &[u8]) -> u64 {
+    let mut at = 0;
+    let mut place: u64 = 0;
+    while at < names.len() {
+        let end = bytes::scan::find(names, at, names.len(), BLANK);
+        if is(&names[at..end], name) {
+            return place;
+        }
+        at = end + 1;
+        place = std::num::wrapping_add_u64(place, 1);
+    }
+    place
+}
+
+// The same of a question: no name's place, unless its numbers are good, none of them is below 0, and they are as many as
+// `counts` has at that place, one figure for each name.
+pub fn asked(names: &[u8], counts: &[u8], name: &[u8], numbers: Numbers) -> u64 {
+    let place = place(names, name);
+    if (counts.len() as u64) <= place {
+        return u64::MAX;
+    }
+    let wanted = numbers::worth(counts[place as usize]);
+    if (!numbers.good | numbers.below) | (wanted != numbers.count as u64) {
+        return u64::MAX;
+    }
+    place
 }

@@ -4,132 +4,112 @@ use crate::BLANK;
 
 const MINUS: u8 = 45;
 
-const NOUGHT: u8 = 48;
-
-const NINE: u8 = 57;
-
 // How many numbers a question may have.
-pub const MOST: usize = 6;
+pub const MOST: usize = 8;
 
-pub struct Number {
+// The largest number that has room for a sign.
+const LARGEST_SIGNED: u64 = 9_223_372_036_854_775_807;
+
+pub struct Numbers {
+    // Every word is a number, and there are not too many.
     pub good: bool,
-    pub minus: bool,
-    pub magnitude: u64,
+    pub count: usize,
+    // Whether the first is below 0.
+    pub below: bool,
+    pub of: [u64; MOST],
 }
 
-fn bad() -> Number {
-    Number {
-        good: false,
-        minus: false,
-        magnitude: 0,
-    }
+struct Number {
+    good: bool,
+    of: u64,
 }
 
 // What a figure stands for; of a byte that is none, 10.
-fn worth(byte: u8) -> u64
+pub fn worth(byte: u8) -> u64
     ensures { λ r. ⌜ r ≤ 10 ⌝ }
 {
-    if byte < NOUGHT {
-        return 10;
+    match byte {
+        48..=57 => (byte - 48) as u64,
+        _ => 10,
     }
-    if NINE < byte {
-        return 10;
-    }
-    (byte - NOUGHT) as u64
 }
 
 // A number with one figure more, if 64 bits hold it.
-fn with_figure(number: Number, byte: u8) -> Number {
-    let figure = worth(byte);
+fn with_figure(number: Number, figure: u64) -> Number
+    requires { ⌜ figure ≤ 10 ⌝ }
+{
+    let none = Number { good: false, of: 0 };
     if 9 < figure {
-        return bad();
+        return none;
     }
-    if (u64::MAX - figure) / 10 < number.magnitude {
-        return bad();
+    if (u64::MAX - figure) / 10 < number.of {
+        return none;
     }
     Number {
         good: number.good,
-        minus: number.minus,
-        magnitude: number.magnitude * 10 + figure,
+        of: number.of * 10 + figure,
     }
 }
 
 // The figures of a word from a place on.
-fn figures(word: &[u8], from: usize, minus: bool) -> Number {
+fn figures(word: &[u8], from: usize) -> Number {
     let mut number = Number {
         good: from < word.len(),
-        minus,
-        magnitude: 0,
+        of: 0,
     };
     let mut i = from;
     while i < word.len() {
-        number = with_figure(number, word[i]);
+        number = with_figure(number, worth(word[i]));
         i += 1;
     }
     number
 }
 
-fn read_number(word: &[u8]) -> Number {
+fn begins_below(word: &[u8]) -> bool {
     if word.len() == 0 {
-        return bad();
+        return false;
     }
-    if word[0] == MINUS {
-        return figures(word, 1, true);
-    }
-    figures(word, 0, false)
+    word[0] == MINUS
 }
 
-pub struct Numbers {
-    pub good: bool,
-    pub count: usize,
-    // Whether the first is below 0; no other may be.
-    pub minus: bool,
-    pub of: [u64; MOST],
-}
-
-fn with_number(numbers: Numbers, more: Number) -> Numbers {
+// The numbers with one more.
+fn with_number(numbers: Numbers, word: &[u8]) -> Numbers {
+    let below = begins_below(word);
+    let number = figures(word, laws::pick(below, 1, 0) as usize);
+    let fits = !below | (number.of <= LARGEST_SIGNED + 1);
     let mut of = numbers.of;
     let at = numbers.count;
     if at < MOST {
-        of[at] = more.magnitude;
+        of[at] = number.of;
         return Numbers {
-            good: (numbers.good & more.good) & !(more.minus & (0 < at)),
+            good: numbers.good & (number.good & (fits & !(below & (0 < at)))),
             count: at + 1,
-            minus: numbers.minus | more.minus,
+            below: numbers.below | below,
             of,
         };
     }
     Numbers {
         good: false,
         count: at,
-        minus: numbers.minus,
+        below: false,
         of,
     }
 }
 
-// Every word is a number.
 pub fn read_numbers(words: &[u8]) -> Numbers {
     let mut numbers = Numbers {
         good: true,
         count: 0,
-        minus: false,
+        below: false,
         of: [0; MOST],
     };
     let mut at = 0;
     while at < words.len() {
         let end = bytes::scan::find(words, at, words.len(), BLANK);
-        numbers = with_number(numbers, read_number(&words[at..end]));
+        numbers = with_number(numbers, &words[at..end]);
         at = end + 1;
     }
     numbers
-}
-
-// How many numbers there are; more than a question may have, if one is bad or below 0.
-pub fn count_of(numbers: Numbers) -> usize {
-    if numbers.good & !numbers.minus {
-        return numbers.count;
-    }
-    MOST + 1
 }
 
 pub struct Signed {
@@ -137,20 +117,19 @@ pub struct Signed {
     pub number: i64,
 }
 
-// Only with a minus sign may it be 2^63.
-pub fn with_sign(minus: bool, magnitude: u64) -> Signed {
-    if 9_223_372_036_854_775_807 < magnitude {
+// The first number with its sign: 2^63 only below 0.
+pub fn first_signed(numbers: Numbers) -> Signed {
+    let of = numbers.of;
+    let below = numbers.below;
+    if LARGEST_SIGNED < of[0] {
         return Signed {
-            good: minus & (magnitude == 9_223_372_036_854_775_808),
+            good: below,
             number: i64::MIN,
         };
     }
-    let number = magnitude as i64;
-    if minus {
-        return Signed {
-            good: true,
-            number: 0 - number,
-        };
+    let number = of[0] as i64;
+    Signed {
+        good: true,
+        number: if below { 0 - number } else { number },
     }
-    Signed { good: true, number }
 }

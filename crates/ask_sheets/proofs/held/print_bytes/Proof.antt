@@ -1,11 +1,11 @@
 use borrow.Author.Needs.{needs}
-use Prim.Native.Nat.{_≤_, _-_}
-use lib.ListN.{length}
 use Rattle.ask_sheets.proofs.held.print_bytes.Statement.{statement}
 use Rattle.ask_sheets.proofs.held.print_bytes.Tie as tie
+use Prim.Native.Nat.{_≤_, _-_}
+use lib.ListN.{length}
 
 abbrev Inv-loop : tie.InvT-loop
-Inv-loop out written sum₀ kept₀ i₀ t7 t8 sum kept i = (kept ≤ i) × (i ≤ length out)
+Inv-loop out written sum₀ kept₀ i₀ t7 t8 sum kept i = kept ≤ i
 
 abbrev μ-loop : tie.MeasureT-loop
 μ-loop out written sum₀ kept₀ i₀ t7 t8 sum kept i = length out - i
@@ -16,8 +16,6 @@ print-bytes-spec =
     (tie.spec
     Inv-loop
     μ-loop
-    (search needs)
-    (search needs)
     (search needs)
     (search needs)
     (search needs)

@@ -1,7 +1,7 @@
 use borrow.Author.Needs.{needs}
-use Prim.Native.Nat.{_≤_, _-_}
 use Rattle.asking.proofs.answer.fields.Statement.{statement}
 use Rattle.asking.proofs.answer.fields.Tie as tie
+use Prim.Native.Nat.{_≤_, _-_}
 
 abbrev Inv-loop : tie.InvT-loop
 Inv-loop numbers of₀ count₀ of count = count ≤ 10

@@ -1,13 +1,13 @@
 use borrow.Author.Needs.{needs}
-use Prim.Native.Nat.{_≤_, _-_}
 use Rattle.asking.proofs.answer.print.Statement.{statement}
 use Rattle.asking.proofs.answer.print.Tie as tie
+use Prim.Native.Nat.{_≤_, _-_}
 
 abbrev Inv-loop : tie.InvT-loop
-Inv-loop answer of i₀ t5 i = i ≤ 10
+Inv-loop answer of i₀ i = i ≤ 10
 
 abbrev μ-loop : tie.MeasureT-loop
-μ-loop answer of i₀ t5 i = 10 - i
+μ-loop answer of i₀ i = 10 - i
 
 pub print-spec : {M : Type 1} → statement M
 print-spec =
@@ -15,8 +15,6 @@ print-spec =
     (tie.spec
     Inv-loop
     μ-loop
-    (search needs)
-    (search needs)
     (search needs)
     (search needs)
     (search needs)

@@ -1,8 +1,8 @@
 use borrow.Author.Needs.{needs}
-use Prim.Native.Nat.{_≤_, _-_}
-use lib.ListN.{length}
 use Rattle.asking.proofs.numbers.read_numbers.Statement.{statement}
 use Rattle.asking.proofs.numbers.read_numbers.Tie as tie
+use Prim.Native.Nat.{_≤_, _-_}
+use lib.ListN.{length}
 
 abbrev Inv-loop : tie.InvT-loop
 Inv-loop words numbers₀ at₀ numbers at = at₀ ≤ at
@@ -16,7 +16,6 @@ read-numbers-spec =
     (tie.spec
     Inv-loop
     μ-loop
-    (search needs)
     (search needs)
     (search needs)
     (search needs)
