@@ -1,6 +1,6 @@
 -- The words of this crate are these numbers, worked out for both truth values.
 use mathlib.Core.Path.{refl}
-use mathlib.Core.Bool.{Bool, true, false}
+use mathlib.Core.Bool.{true, false}
 use Rattle.delays.specs.Delays.{delayed, tuesdayRule, mondayRule, fromNoon, closed}
 use Rattle.delays.specs.Fixed.{WordsFixed}
 

@@ -1,15 +1,14 @@
 -- The words of this crate are these numbers, worked out from New Years.
-use mathlib.Core.Path.{_≡_, refl, _∙_}
-use mathlib.Core.Bool.{true, cond}
+use mathlib.Core.Path.{_≡_, refl}
+use mathlib.Core.Bool.{true}
 use mathlib.Core.List.{List}
 use mathlib.Core.Logic.{inl, inr}
 use Prim.Native.Nat.{ℕ, _+_, _*_, _-_, _≤_, _<_}
 use native.Mathlib.Omega.{arith}
-use borrow.Author.Tests.{lt-ltb}
 use Rattle.laws.specs.Begun.{begun}
 use Rattle.laws.specs.Joined.{total}
 use Rattle.laws.specs.Runs.{every, outside}
-use Rattle.newyear.specs.NewYear.{newYear, yearLength}
+use Rattle.newyear.specs.NewYear.{newYear}
 use Rattle.newyear.proofs.Quick.{quick, newYear-quick}
 use Rattle.hebrew.specs.Months.{monthLength, daysBefore}
 use Rattle.hebrew.specs.Dates.{monthOf}
@@ -23,7 +22,7 @@ use Rattle.sheet.specs.Promises.{offsetTold, rowsTold, lengthTold, rowsToldBefo
 use Rattle.sheet.proofs.Fixed.{counted}
 use Rattle.sheet.proofs.ReadBack.{entry-told, sheet-of}
 use Rattle.accepted.specs.Check.{indexPlaced, placed, loadedRefusal}
-use Rattle.loaded.specs.Rows.{noRows, offSheet, rowsAnswer}
+use Rattle.loaded.specs.Rows.{noRows, rowsAnswer}
 use Rattle.loaded.specs.Walk.{endedRow, hasRow, rowGiven, rowAfter, begunAt}
 use Rattle.loaded.specs.Fixed.{WordsFixed}
 use Rattle.accepted.proofs.Accepted.{where-accepted}

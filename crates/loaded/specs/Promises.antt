@@ -6,11 +6,10 @@ use lib.ListN.{length, getD}
 use Rattle.laws.specs.Joined.{joined}
 use Rattle.laws.specs.Promise.{Asked, _else_, Promised}
 use Rattle.layout.specs.Reading.{numberAt}
-use Rattle.molad.specs.Years.{InYears}
-use Rattle.rest.specs.Wings.{IsWing, tableOf}
+use Rattle.rest.specs.Wings.{tableOf}
 use Rattle.stretches.specs.Stretches.{stretchRows}
-use Rattle.sheet.specs.Sheet.{mostYears, yearRows, rowsBefore, sheet}
-use Rattle.sheet.specs.Promises.{offsetTold, rowsTold, rowsToldBefore, SheetOf}
+use Rattle.sheet.specs.Sheet.{yearRows, rowsBefore}
+use Rattle.sheet.specs.Promises.{offsetTold, rowsTold}
 use Rattle.accepted.specs.Check.{loadedRefusal}
 use Rattle.accepted.specs.Promises.{askedOfLoaded}
 use Rattle.loaded.specs.Rows.{rowsAnswer, rowsOf, namedSheet}

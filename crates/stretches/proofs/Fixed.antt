@@ -20,7 +20,6 @@ use Rattle.rest.specs.Wings.{IsWing, tableOf}
 use Rattle.rest.specs.Steps.{restAt}
 use Rattle.rest.specs.Answers.{listAnswer, listBuffer}
 use Rattle.rest.proofs.Passed.{tables-pass}
-use Rattle.stretch.proofs.Year.{TableYear}
 use Rattle.stretches.specs.Stretches.{stretchRows}
 use Rattle.stretches.specs.Steps.{runBefore, rowsAt}
 use Rattle.stretches.specs.Answers.{wingStretches, wingStretchesBuffer}

@@ -9,7 +9,7 @@ use lib.Dec.{eqb, ltb, leb}
 use borrow.Author.Tests.{leb-true}
 use Rattle.laws.specs.Runs.{every, eitherWay}
 use Rattle.laws.proofs.Tests.{at, whether, all, Each, facts}
-use Rattle.delays.specs.Delays.{closed, delayed}
+use Rattle.delays.specs.Delays.{closed}
 use Rattle.delays.specs.declared.Delayed.{Delayed}
 use Rattle.delays.proofs.Late.{alike, are-alike, byTimes, by-times, noon-or-before}
 use Rattle.delays.proofs.delay.Statement.{statement}
