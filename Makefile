@@ -1,5 +1,5 @@
 # make help lists what can be asked for; README.md has the rest.
-.PHONY: help year notice sheet sheet-show ask test panel lib install uninstall clean
+.PHONY: help year notice sheet sheet-show ask test check quick panel lib install uninstall clean
 
 # The lines of README.md that begin with make.
 help:
@@ -41,8 +41,18 @@ panel:
 ask:
 	@tools/ask $${FILE:+"$$FILE"}
 
-test:
+test check:
 	bash .ci/run
+
+# What has changed alone, and the tests of C and of the pages.
+quick:
+	@tools/quick
+
+# Of a folder make would say that there is nothing to be done for it.
+FOLDERS := $(wildcard */)
+$(FOLDERS) $(FOLDERS:/=): is-no-target
+	@echo "make: $@ is a folder, and nothing to ask for; make help lists what is" >&2; exit 1
+is-no-target:
 
 # target/lib/libbournedrouth.a, and the headers in target/include.
 lib:

@@ -63,7 +63,7 @@ fn entries(out: &[u64], listed: u64) {
 
 fn list(of_stretches: bool, wing: u64, year: u64, out: &mut [u64]) -> rest::ListAnswer {
     if of_stretches {
-        stretch::stretches(wing, year, out)
+        stretches::stretches(wing, year, out)
     } else {
         rest::rest_days(wing, year, out)
     }

@@ -29,7 +29,7 @@ fn delay(weekday: u64, hour: u64, part: u64, leap: u64, after_leap: u64) -> Answ
     if 1079 < part {
         return no_answer();
     }
-    let late = newyear::delay(weekday, 1080 * hour + part, leap == 1, after_leap == 1);
+    let late = delays::delay(weekday, 1080 * hour + part, leap == 1, after_leap == 1);
     fields(&[late.delay, late.cause])
 }
 

@@ -5,7 +5,7 @@ use mathlib.Core.Logic.{_⊎_, inl, inr, ⊎-elim}
 use Prim.Native.Nat.{ℕ, _+_, _≤_}
 use native.Mathlib.Omega.{arith}
 use lib.ListN.{length}
-use Rattle.stretch.specs.Promises.{Listed, here, there, FirstDaysRise, StretchesOf}
+use Rattle.stretches.specs.Promises.{Listed, here, there, FirstDaysRise, StretchesOf}
 
 -- No first day comes before the one from which they rise.
 not-before : {f c : ℕ} {l : List ℕ} (from : ℕ) → FirstDaysRise from l → Listed f c l → from ≤ f

@@ -17,9 +17,9 @@ use Rattle.layout.specs.Reading.{numberAt}
 use Rattle.newyear.specs.NewYear.{yearLength}
 use Rattle.rest.specs.Wings.{tableOf}
 use Rattle.rest.proofs.Passed.{tables-pass}
-use Rattle.stretch.specs.Stretches.{stretchRows}
-use Rattle.stretch.specs.Promises.{StretchesOf}
-use Rattle.stretch.proofs.WholeList.{stretches-of, two-each}
+use Rattle.stretches.specs.Stretches.{stretchRows}
+use Rattle.stretches.specs.Promises.{StretchesOf}
+use Rattle.stretches.proofs.WholeList.{stretches-of, two-each}
 use Rattle.sheet.specs.Sheet.{rowsIn}
 use Rattle.sheet.specs.Promises.{offsetTold, rowsTold, lengthTold, rowsToldBefore, stretchesTold, SheetOf}
 use Rattle.sheet.proofs.Pairs.{pairAt, pairs-joined}

@@ -12,7 +12,7 @@ use Rattle.layout.proofs.Sizes.{header-long}
 use Rattle.layout.proofs.Standing.{Stands, stands-both, stands-each, stands-whole, stands-number, stands-three}
 use Rattle.newyear.specs.NewYear.{yearLength}
 use Rattle.rest.specs.Wings.{tableOf}
-use Rattle.stretch.specs.Stretches.{stretchRows}
+use Rattle.stretches.specs.Stretches.{stretchRows}
 use Rattle.sheet.specs.Sheet.{rowOf, rowsIn, yearRows, rowsBefore, sheetSize, entryOf, sheet}
 use Rattle.sheet.specs.Promises.{offsetTold, rowsTold, lengthTold, rowsToldBefore, SheetOf}
 use Rattle.sheet.proofs.Sizes.{rows-long, index-long, years-long, front-long, sheet-long}

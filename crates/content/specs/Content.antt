@@ -9,7 +9,7 @@ use Rattle.laws.specs.Runs.{every}
 use Rattle.layout.specs.Reading.{numberAt}
 use Rattle.newyear.specs.NewYear.{yearLength}
 use Rattle.rest.specs.Wings.{tableOf}
-use Rattle.stretch.specs.Stretches.{stretchRows}
+use Rattle.stretches.specs.Stretches.{stretchRows}
 use Rattle.sheet.specs.Sheet.{rowsIn}
 use Rattle.sheet.specs.Promises.{offsetTold, rowsTold, lengthTold}
 

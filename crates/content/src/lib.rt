@@ -45,8 +45,8 @@ fn year_agrees(wing: u64, sheet: &[u8], i: u64, span: newyear::Span) -> bool
     if layout::two_at(sheet, entry + 6) != span.length {
         return false;
     }
-    let mut list = [0u64; stretch::STRETCHES_ROOM];
-    let entries = stretch::year_rows(wing, span, &mut list);
+    let mut list = [0u64; stretches::STRETCHES_ROOM];
+    let entries = stretches::year_rows(wing, span, &mut list);
     if layout::two_at(sheet, entry + 4) != entries as u64 / 2 {
         return false;
     }

@@ -11,7 +11,7 @@ use denote.Ref.{RefT}
 use Rattle.laws.proofs.One.{one-result}
 use Rattle.laws.proofs.Promises.{ranged, asks, answered}
 use Rattle.sheet.specs.Promises.{offsetTold, rowsTold}
-use Rattle.loaded.specs.Check.{yearsTold, firstTold, loadedRefusal}
+use Rattle.accepted.specs.Check.{yearsTold, firstTold, loadedRefusal}
 use Rattle.loaded.specs.Rows.{noRows, offSheet, rowsAnswer, rowsOf, namedSheet, namedAnswer}
 use Rattle.loaded.specs.Promises.{EmptyPart, PromisedRows, PromisedNamed}
 use Rattle.loaded.specs.Walk.{rowGiven, stepAt, begunAt, begunOn, movedOn}
@@ -20,7 +20,7 @@ use Rattle.loaded.specs.declared.walk.Row.{Row}
 use Rattle.loaded.specs.declared.walk.Begun.{Begun}
 use Rattle.loaded.specs.declared.walk.Stepped.{Stepped}
 use Rattle.loaded.specs.declared.walk.Walker.{Walker}
-use Rattle.loaded.proofs.Accepted.{where-accepted, where-refused, loaded-promised, rows-inside}
+use Rattle.accepted.proofs.Accepted.{where-accepted, where-refused, loaded-promised, rows-inside}
 
 module _ (wing : ℕ) (bytes : List ℕ) (year : ℕ) where
   abbrev told : RowsAnswer
@@ -78,9 +78,6 @@ named-place one two = (refl, refl)
 
 -- One answer of each, and one part.
 module _ (bytes : List ℕ) where
-  pub refusal-one : (wing r s : ℕ) → r ≡ loadedRefusal wing bytes → s ≡ loadedRefusal wing bytes → r ≡ s
-  refusal-one wing = one-result (loadedRefusal wing bytes)
-
   pub begun-one : (wing : ℕ) (r s : Begun) → r ≡ begunAt wing bytes → s ≡ begunAt wing bytes → r ≡ s
   begun-one wing = one-result (begunAt wing bytes)
 

@@ -15,22 +15,21 @@ use Rattle.hebrew.specs.Months.{monthLength, daysBefore}
 use Rattle.hebrew.specs.Dates.{monthOf}
 use Rattle.hebrew.specs.Steps.{yearDate, tomorrow}
 use Rattle.rest.specs.Wings.{IsWing, tableOf}
-use Rattle.stretch.proofs.OfKind.{entries}
+use Rattle.stretches.proofs.OfKind.{entries}
 use Rattle.layout.specs.Layout.{rowsOffset}
 use Rattle.layout.specs.Reading.{worth, numberAt}
 use Rattle.sheet.specs.Sheet.{mostYears, rowsIn, rowsBefore, sheet}
 use Rattle.sheet.specs.Promises.{offsetTold, rowsTold, lengthTold, rowsToldBefore, SheetOf}
-use Rattle.sheet.proofs.Fixed.{counted, days}
+use Rattle.sheet.proofs.Fixed.{counted}
 use Rattle.sheet.proofs.ReadBack.{entry-told, sheet-of}
-use Rattle.content.specs.Content.{yearAgrees, contentAgrees}
-use Rattle.loaded.specs.Check.{indexPlaced, placed, loadedRefusal}
+use Rattle.accepted.specs.Check.{indexPlaced, placed, loadedRefusal}
 use Rattle.loaded.specs.Rows.{noRows, offSheet, rowsAnswer}
 use Rattle.loaded.specs.Walk.{endedRow, hasRow, rowGiven, rowAfter, begunAt}
-use Rattle.loaded.specs.Fixed.{one, guest, WordsFixed}
-use Rattle.loaded.proofs.Accepted.{where-accepted}
+use Rattle.loaded.specs.Fixed.{WordsFixed}
+use Rattle.accepted.proofs.Accepted.{where-accepted}
+use Rattle.accepted.proofs.Exactly.{sheet-accepted}
 use Rattle.loaded.proofs.Answers.{rows-of-sheet}
 use Rattle.loaded.proofs.Together.{year-place}
-use Rattle.loaded.proofs.Written.{sheet-yields}
 
 -- A sheet that is written for so many years, from year h on.
 module _ (wing h years : ℕ) (w : IsWing wing) (some : 1 ≤ years) (most : years ≤ mostYears) (from : 1 ≤ h) (to : h + years ≤ 10000) where
@@ -40,8 +39,8 @@ module _ (wing h years : ℕ) (w : IsWing wing) (some : 1 ≤ years) (most : yea
   told : SheetOf wing h years bytes
   told = sheet-of wing h years w some most from to
 
-  pub accepted : loadedRefusal wing bytes ≡ 0
-  accepted = sheet-yields wing h years w some most from to .accepted
+  accepted : loadedRefusal wing bytes ≡ 0
+  accepted = sheet-accepted wing h years bytes w some most from to told
 
   pub rows-at : (i : ℕ) → i < years → rowsAnswer wing bytes (h + i) ≡ record { refusal = 0; offset = rowsOffset years + 6 * rowsBefore wing h i; length = 6 * rowsIn wing (h + i) }
   rows-at i p =
@@ -57,12 +56,11 @@ module _ (wing h years : ℕ) (w : IsWing wing) (some : 1 ≤ years) (most : yea
   begins = where-accepted wing bytes (λ n. record { refusal = n; row = endedRow }) (record { refusal = 0; row = 0 }) accepted
 
 pub words-fixed : WordsFixed
-unfolding quick tableOf yearDate monthOf begun daysBefore monthLength tomorrow entries rowsBefore total every numberAt worth offsetTold rowsTold lengthTold rowsToldBefore indexPlaced placed contentAgrees yearAgrees loadedRefusal begunAt rowsAnswer hasRow rowGiven rowAfter
+unfolding quick tableOf yearDate monthOf begun daysBefore monthLength tomorrow entries rowsBefore total every numberAt worth offsetTold rowsTold lengthTold rowsToldBefore indexPlaced placed loadedRefusal begunAt rowsAnswer hasRow rowGiven rowAfter
 words-fixed =
     let n5775 : newYear 5775 ≡ 2456926 = newYear-quick 5775 (omega arith) in
     let n5776 : newYear 5776 ≡ 2457280 = newYear-quick 5776 (omega arith) in
     let n5777 : newYear 5777 ≡ 2457665 = newYear-quick 5777 (omega arith) in
-    let d5775 = days 5775 2456926 2457280 n5775 n5776 in
     let c5775 = counted 1 5775 2456926 2457280 53 (inl refl) (omega arith) n5775 n5776 refl in
     let g5775 = counted 2 5775 2456926 2457280 51 (inr refl) (omega arith) n5775 n5776 refl in
     let g5776 = counted 2 5776 2457280 2457665 59 (inr refl) (omega arith) n5776 n5777 refl in
@@ -73,8 +71,6 @@ words-fixed =
       rows = (of-one, of-guest);
       off-sheet = (off-one 5774 refl, off-one 5776 refl, rows-off 2 5775 3 (inr refl) (omega arith) (omega arith) (omega arith) (omega arith) 5778 refl);
       named = (of-one, of-guest, refl, refl);
-      no-wing = (refl, refl);
-      refused = (refl, refl, refl, refl, refl, refl, rw d5775, rw d5775);
       walk = (
         begins 1 5775 1 (inl refl) (omega arith) (omega arith) (omega arith) (omega arith),
         begins 2 5775 3 (inr refl) (omega arith) (omega arith) (omega arith) (omega arith),

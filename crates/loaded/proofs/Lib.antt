@@ -1,7 +1,5 @@
-pub mod Accepted
 pub mod Answers
 pub mod Together
 pub mod Walks
 pub mod Written
-pub mod Exactly
 pub mod Fixed

@@ -10,11 +10,11 @@ use Rattle.laws.proofs.Joins.{joined-alike, joined-rows}
 use Rattle.laws.proofs.Promises.{ranged, let-pass}
 use Rattle.layout.proofs.Numbers.{number-in-part}
 use Rattle.sheet.specs.Promises.{offsetTold, rowsTold, rowsToldBefore}
-use Rattle.loaded.specs.Check.{yearsTold, firstTold, countTold, loadedRefusal}
+use Rattle.accepted.specs.Check.{yearsTold, firstTold, countTold, loadedRefusal}
 use Rattle.loaded.specs.Rows.{rowsAnswer}
 use Rattle.loaded.specs.Walk.{rowPlace, rowRead}
 use Rattle.loaded.specs.Promises.{rowNumbers, rowsInPart, yearPart, Together}
-use Rattle.loaded.proofs.Accepted.{accepted, rows-inside}
+use Rattle.accepted.proofs.Accepted.{accepted, rows-inside}
 use Rattle.loaded.proofs.Answers.{rows-of-sheet}
 use Rattle.loaded.proofs.Walks.{rows-handed-out}
 

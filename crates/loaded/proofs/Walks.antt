@@ -11,10 +11,10 @@ use lib.Dec.{ltb}
 use lib.ListN.{length}
 use denote.Ref.{RefT, now}
 use Rattle.laws.proofs.Tests.{and-left, and-right}
-use Rattle.loaded.specs.Check.{countTold, loadedRefusal}
+use Rattle.accepted.specs.Check.{countTold, loadedRefusal}
 use Rattle.loaded.specs.Walk.{rowPlace, hasRow, rowRead, rowGiven, rowAfter, endedRow, begunAt, begunOn}
 use Rattle.loaded.specs.Promises.{RowThere, NoMore, StepOf, rowAfterCalls, handedOut, afterCalls, WalkOf}
-use Rattle.loaded.proofs.Accepted.{where-accepted, where-refused, accepted}
+use Rattle.accepted.proofs.Accepted.{where-accepted, where-refused, accepted}
 
 module _ (bytes : List ℕ) (k : ℕ) where
   -- Its bytes are not there.

@@ -1,5 +1,5 @@
--- A sheet that was written is accepted, and yields what was written.
-use mathlib.Core.Path.{_≡_, _∙_}
+-- A sheet that was written yields what was written; and so what is accepted yields the calendar's rows.
+use mathlib.Core.Path.{_≡_, sym, subst, _∙_}
 use mathlib.Core.List.{List}
 use Prim.Native.Nat.{ℕ, _+_, _*_, _≤_, _<_}
 use native.Mathlib.Omega.{arith}
@@ -7,40 +7,23 @@ use lib.ListN.{take}
 use Rattle.laws.specs.Joined.{joined}
 use Rattle.laws.proofs.Joins.{held-part, joined-alike, joined-rows}
 use Rattle.layout.specs.Layout.{rowsOffset}
+use Rattle.layout.specs.Reading.{Bytes}
 use Rattle.rest.specs.Wings.{IsWing, tableOf}
-use Rattle.stretch.specs.Stretches.{stretchRows}
+use Rattle.stretches.specs.Stretches.{stretchRows}
 use Rattle.sheet.specs.Sheet.{mostYears, rowsIn, yearRows, rowsBefore, sheet}
 use Rattle.sheet.specs.Answers.{wingSheet, wingSheetBuffer}
 use Rattle.sheet.specs.Promises.{SheetOf}
 use Rattle.sheet.proofs.Sizes.{year-long}
 use Rattle.sheet.proofs.ReadBack.{year-held, entry-told, header-told, row-told, sheet-of}
 use Rattle.sheet.proofs.Answers.{sheet-written}
-use Rattle.loaded.specs.Check.{countTold, loadedRefusal}
+use Rattle.accepted.specs.Check.{yearsTold, firstTold, countTold, loadedRefusal}
+use Rattle.accepted.proofs.Accepted.{refusal-promised, accepted}
+use Rattle.accepted.proofs.Exactly.{sheet-accepted, accepted-written}
 use Rattle.loaded.specs.Rows.{rowsAnswer, rowsOf}
 use Rattle.loaded.specs.Walk.{rowPlace, rowRead}
-use Rattle.loaded.specs.Promises.{WritersYears, Placed, rowNumbers, rowsWalked, withWing, Yields}
-use Rattle.loaded.proofs.Accepted.{refusal-promised}
+use Rattle.loaded.specs.Promises.{rowNumbers, rowsWalked, withWing, Yields}
 use Rattle.loaded.proofs.Together.{year-place}
 use Rattle.loaded.proofs.Walks.{rows-handed-out}
-
--- What header and index tell of a sheet is all that is asked of it.
-pub sheet-accepted :
-    (wing h years : ℕ) (bytes : List ℕ) → IsWing wing → 1 ≤ years → years ≤ mostYears → 1 ≤ h → h + years ≤ 10000 →
-    SheetOf wing h years bytes → loadedRefusal wing bytes ≡ 0
-sheet-accepted wing h years bytes w some most from to s =
-    let y = s .years-told in
-    let f = s .first-told in
-    let fits : Placed bytes =
-    record {
-      index-offset = s .index-offset;
-      rows-offset = rw y (s .rows-offset);
-      rows-counted = rw y (s .rows-told);
-      offsets = rw y (s .offsets);
-      size = rw (y, s .rows-told) (s .all);
-    }
-    in
-    let ends : WritersYears bytes = rw (y, f) ((some, most), ((from, omega arith), (omega arith, omega arith))) in
-    refusal-promised wing bytes .done .1 (w, (omega (arith, s .all), (ends, (fits, (rw (y, f) s, tt)))))
 
 module _ (wing h years : ℕ) (w : IsWing wing) (some : 1 ≤ years) (most : years ≤ mostYears) (from : 1 ≤ h) (to : h + years ≤ 10000) where
   abbrev bytes : List ℕ
@@ -92,3 +75,11 @@ pub written-yields :
     (wing h years : ℕ) (buffer : List ℕ) → wingSheet wing h years buffer .refusal ≡ 0 →
     Yields wing h years (take (wingSheet wing h years buffer .count) (wingSheetBuffer wing h years buffer))
 written-yields wing h years buffer = sheet-written wing h years buffer (Yields wing h years) (sheet-yields wing h years)
+
+-- Bytes that are accepted yield the calendar's rows for the years that they tell, by year and by walking.
+pub accepted-yields :
+    (wing : ℕ) (bytes : List ℕ) → Bytes bytes → loadedRefusal wing bytes ≡ 0 → Yields wing (firstTold bytes) (yearsTold bytes) bytes
+accepted-yields wing bytes all z =
+    let t = accepted wing bytes z .1 .0 in
+    subst (Yields wing (firstTold bytes) (yearsTold bytes)) (sym (accepted-written wing bytes all z))
+    (sheet-yields wing (firstTold bytes) (yearsTold bytes) (refusal-promised wing bytes .done .0 z .0) (t .0 .0) (t .0 .1) (t .1 .0 .0) (omega (arith, t .0 .0, t .1 .1 .1)))

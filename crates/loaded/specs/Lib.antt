@@ -1,4 +1,3 @@
-pub mod Check
 pub mod Promises
 pub mod Rows
 pub mod Walk

@@ -6,7 +6,7 @@ use lib.Dec.{eqb}
 use lib.ListN.{take, drop}
 use Rattle.laws.specs.Runs.{outside}
 use Rattle.sheet.specs.Promises.{offsetTold, rowsTold}
-use Rattle.loaded.specs.Check.{yearsTold, firstTold, ofLoaded}
+use Rattle.accepted.specs.Check.{yearsTold, firstTold, ofLoaded}
 use Rattle.loaded.specs.declared.years.RowsAnswer.{RowsAnswer}
 
 abbrev pub noRows : ℕ → RowsAnswer

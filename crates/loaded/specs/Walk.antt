@@ -7,7 +7,7 @@ use lib.ListN.{length}
 use denote.Ref.{RefT, now}
 use Rattle.layout.specs.Layout.{rowsOffset}
 use Rattle.layout.specs.Reading.{numberAt}
-use Rattle.loaded.specs.Check.{yearsTold, countTold, ofLoaded}
+use Rattle.accepted.specs.Check.{yearsTold, countTold, ofLoaded}
 use Rattle.loaded.specs.declared.walk.Row.{Row}
 use Rattle.loaded.specs.declared.walk.Stepped.{Stepped}
 use Rattle.loaded.specs.declared.walk.Begun.{Begun}

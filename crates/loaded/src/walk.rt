@@ -1,5 +1,4 @@
 // One row after another.
-use crate::check::sheet_refusal;
 ghost use mathlib.Core.Path.{_≡_};
 ghost use Rattle.loaded.specs.Walk.{hasRow, stepAt, rowGiven, begunAt, begunOn, movedOn};
 
@@ -72,7 +71,7 @@ pub fn step_at(sheet: &[u8], row: u64) -> Stepped
 pub fn first_row(wing: u64, sheet: &[u8]) -> Begun
     ensures { λ r. ⌜ r ≡ begunAt wing (now (sheet .entry)) ⌝ }
 {
-    let refusal = sheet_refusal(wing, sheet);
+    let refusal = accepted::sheet_refusal(wing, sheet);
     if refusal != 0 {
         return Begun {
             refusal,

@@ -1,5 +1,4 @@
 // A year's own rows, in one sheet and in the one of two that is named.
-use crate::check::sheet_refusal;
 ghost use mathlib.Core.Path.{_≡_};
 ghost use Prim.Native.Nat.{_+_};
 ghost use Rattle.loaded.specs.Rows.{noRows, rowsAnswer, rowsOf, namedSheet, namedAnswer};
@@ -27,7 +26,7 @@ fn no_rows(refusal: u64) -> RowsAnswer
 pub fn rows_place(wing: u64, sheet: &[u8], year: u64) -> RowsAnswer
     ensures { λ r. ⌜ r ≡ rowsAnswer wing (now (sheet .entry)) year ⌝ }
 {
-    let refusal = sheet_refusal(wing, sheet);
+    let refusal = accepted::sheet_refusal(wing, sheet);
     if refusal != 0 {
         return no_rows(refusal);
     }

@@ -1,6 +1,6 @@
 -- What `new_year`, `year`, `kind` and `year_of_day` promise, and that each contract leaves one answer.
 use mathlib.Core.Path.{_≡_, refl, sym, _∙_}
-use mathlib.Core.Bool.{Bool, cond}
+use mathlib.Core.Bool.{cond}
 use mathlib.Core.List.{[], _∷_}
 use Prim.Native.Nat.{ℕ, _+_, _-_, _%_}
 use native.Mathlib.Omega.{arith}
@@ -12,19 +12,19 @@ use Rattle.days.specs.Range.{firstDay, lastDay, InRange}
 use Rattle.days.specs.Weekday.{weekday}
 use Rattle.molad.specs.Years.{lastYear, InYears, lastNewYear, InNewYears, outOfNewYears, leap, monthsIn}
 use Rattle.molad.specs.Molad.{moladDay, moladTime}
+use Rattle.delays.specs.declared.Delayed.{Delayed}
+use Rattle.delays.specs.Promises.{Explained}
+use Rattle.delays.proofs.Late.{explained}
 use Rattle.newyear.specs.NewYear.{delayIn, newYear, yearLength, yearOf, InYear}
 use Rattle.newyear.specs.Kinds.{kinds, kindOf, kindNumber}
 use Rattle.newyear.specs.Answers.{noNewYear, newYearOn, newYearAnswer, yearAnswer, noKind, kindAnswer, yearOfDayAnswer}
-use Rattle.newyear.specs.Promises.{Explained, PromisedNewYear, PromisedKind}
+use Rattle.newyear.specs.Promises.{PromisedNewYear, PromisedKind}
 use Rattle.newyear.specs.Spans.{Spans}
-use Rattle.newyear.specs.Steps.{IsDelay}
-use Rattle.newyear.specs.declared.delays.Delayed.{Delayed}
 use Rattle.newyear.specs.declared.NewYearAnswer.{NewYearAnswer}
 use Rattle.newyear.specs.declared.YearAnswer.{YearAnswer}
 use Rattle.newyear.specs.declared.kinds.KindAnswer.{KindAnswer}
 use Rattle.newyear.specs.declared.YearOfDayAnswer.{YearOfDayAnswer}
 use Rattle.newyear.specs.declared.span.Span.{Span}
-use Rattle.newyear.proofs.Late.{explained}
 use Rattle.newyear.proofs.Lengths.{kind-in}
 use Rattle.newyear.proofs.YearOf.{held}
 
@@ -96,9 +96,6 @@ kind-one h = one-result (kindAnswer h)
 
 pub year-of-day-one : (j : ℕ) (r s : YearOfDayAnswer) → r ≡ yearOfDayAnswer j → s ≡ yearOfDayAnswer j → r ≡ s
 year-of-day-one j = one-result (yearOfDayAnswer j)
-
-pub delay-one : (w t : ℕ) (isLeap afterLeap : Bool) (r s : Delayed) → IsDelay w t isLeap afterLeap r → IsDelay w t isLeap afterLeap s → r ≡ s
-delay-one w t isLeap afterLeap r s p q = p .0 ∙ sym (q .0)
 
 pub year-span-one : (h : ℕ) (r s : Span) → Spans h r → Spans h s → r ≡ s
 year-span-one h r s p q =

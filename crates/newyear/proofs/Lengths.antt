@@ -1,31 +1,34 @@
--- One test over the years 1 to 10,000: New Years rise, each length is one of the six and 383 or more exactly in leap
--- years, and each year is one of the fourteen kinds.
-use mathlib.Core.Path.{_≡_, refl}
+-- One test over the years 1 to 10,000: each is one of the fourteen kinds, so that its length is one of the six and New Years
+-- rise, and the length is 383 or more exactly in leap years.
+use mathlib.Core.Path.{_≡_, refl, _∙_}
 use mathlib.Core.Bool.{Bool, true, false, _&&_, not, Bool·beq}
 use mathlib.Core.List.{List, [], _∷_}
 use mathlib.Core.Logic.{by-cases}
 use Prim.Native.Nat.{ℕ, zero, suc, _+_, _*_, _-_, _/_, _%_, _≤_, _<_}
 use native.Mathlib.Omega.{arith}
 use native.Mathlib.Decide.{ℕ-discrete}
-use lib.Dec.{ltb, leb}
-use borrow.Author.Tests.{ltb-true, leb-true, not-true}
-use Rattle.laws.specs.Runs.{eachOf, elem, outside}
-use Rattle.laws.proofs.Tests.{and-left, and-right, of, within, all, Each, facts, beq-true}
+use lib.Dec.{leb}
+use borrow.Author.Tests.{leb-true, not-true}
+use Rattle.laws.specs.Runs.{eachOf, elem}
+use Rattle.laws.proofs.Tests.{and-left, and-right, of, all, Each, facts, beq-true}
 use Rattle.days.specs.Range.{firstDay}
 use Rattle.days.specs.Weekday.{weekday}
 use Rattle.molad.specs.Years.{lastNewYear, leap}
+use Rattle.molad.proofs.Closed.{remainder, leap-remainder}
 use Rattle.newyear.specs.NewYear.{newYear, yearLength}
 use Rattle.newyear.specs.Kinds.{lengths, IsLength, kindCode, kinds, IsKind, everyKind, kindOf}
 use Rattle.newyear.proofs.Quick.{quick, newYear-quick}
 
-six-bounds : eachOf lengths (λ n. not (outside 353 385 n)) ≡ true
+-- The length of each of the fourteen kinds is one of the six.
+kind-lengths : eachOf kinds (λ k. elem (k % 1000) lengths && leb 353 (k % 1000)) ≡ true
 unfolding eachOf
-six-bounds = refl
+kind-lengths = refl
 
-is-length : (n : ℕ) → elem n lengths ≡ true → IsLength n
-is-length n e =
-    let w = within 353 385 n (not-true _ (of lengths (λ n. not (outside 353 385 n)) six-bounds n e)) in
-    record { among = e; short = w .0; long = w .1 }
+is-length : (w len : ℕ) → len ≤ 385 → IsKind (kindCode w len) → IsLength len
+is-length w len u k =
+    let e : (1000 * w + len) % 1000 ≡ len = omega arith in
+    let t = rw e at (of kinds (λ k. elem (k % 1000) lengths && leb 353 (k % 1000)) kind-lengths (kindCode w len) k) in
+    record { among = and-left _ _ t; short = leb-true _ _ (and-right (elem len lengths) _ t); long = u }
 
 -- A test of each kind, of one of them.
 pub kind-passes : (p : ℕ → ℕ → Bool) → everyKind p ≡ true → (w len : ℕ) → IsLength len → IsKind (kindCode w len) → p w len ≡ true
@@ -39,7 +42,7 @@ kind-passes p e w len n k =
 -- the h-th year of 365¼ days from day 347,700 on.
 tests : ℕ → ℕ → ℕ → List Bool
 tests h a b =
-    ltb a b ∷ elem (b - a) lengths ∷ Bool·beq (leb 383 (b - a)) (leap h) ∷ elem (kindCode (weekday a) (b - a)) kinds
+    elem (kindCode (weekday a) (b - a)) kinds ∷ leb (b - a) 385 ∷ Bool·beq (leb 383 (b - a)) (leb 12 (remainder h))
     ∷ leb (1461 * (h - 1) + 1390800) (4 * a) ∷ leb (4 * a) (1461 * h + 1390800) ∷ []
 
 -- The test of n years from year h on, whose New Year is a: each New Year is worked out once.
@@ -48,7 +51,7 @@ walk zero h a = true
 walk (suc n) h a = let b = quick (h + 1) in all (tests h a b) && walk n (h + 1) b
 
 walk-all : walk lastNewYear 1 firstDay ≡ true
-unfolding walk tests quick leap
+unfolding walk tests quick
 walk-all = refl
 
 walk-at : (n h a : ℕ) → quick h ≡ a → walk n h a ≡ true → (k : ℕ) → h ≤ k → k < h + n → all (tests k (quick k) (quick (k + 1))) ≡ true
@@ -67,25 +70,28 @@ module _ (h : ℕ) (l : 1 ≤ h) (u : h ≤ lastNewYear) where
   passed : Each (tests h (quick h) (quick (h + 1)))
   passed = facts (tests h (quick h) (quick (h + 1))) (walk-at lastNewYear 1 firstDay first-quick walk-all h l (omega arith))
 
-  -- New Years rise.
-  pub rises : newYear h < newYear (h + 1)
-  unfolding tests
-  rises = rw (newYear-quick h l, newYear-quick (h + 1) (omega arith)) (ltb-true _ _ (passed .0))
-
-  -- A year's length is one of the six.
-  pub length-in : IsLength (yearLength h)
-  unfolding tests yearLength
-  length-in = is-length _ (rw (newYear-quick h l, newYear-quick (h + 1) (omega arith)) (passed .1 .0))
-
-  -- It is 383 or more exactly in leap years.
-  pub length-leap : leb 383 (yearLength h) ≡ leap h
-  unfolding tests yearLength
-  length-leap = rw (newYear-quick h l, newYear-quick (h + 1) (omega arith)) (beq-true _ _ (passed .1 .1 .0))
-
   -- Each year is one of the fourteen kinds.
   pub kind-in : IsKind (kindOf h)
   unfolding tests yearLength kindOf
-  kind-in = rw (newYear-quick h l, newYear-quick (h + 1) (omega arith)) (passed .1 .1 .1 .0)
+  kind-in = rw (newYear-quick h l, newYear-quick (h + 1) (omega arith)) (passed .0)
+
+  -- A year's length is one of the six.
+  pub length-in : IsLength (yearLength h)
+  unfolding tests yearLength kindOf
+  length-in =
+      is-length (weekday (newYear h)) (yearLength h)
+      (rw (newYear-quick h l, newYear-quick (h + 1) (omega arith)) (leb-true _ _ (passed .1 .0))) kind-in
+
+  -- New Years rise.
+  pub rises : newYear h < newYear (h + 1)
+  unfolding yearLength
+  rises = omega (arith, length-in .short)
+
+  -- A year's length is 383 or more exactly in leap years.
+  pub length-leap : leb 383 (yearLength h) ≡ leap h
+  unfolding tests yearLength
+  length-leap =
+      rw (newYear-quick h l, newYear-quick (h + 1) (omega arith)) (beq-true _ _ (passed .1 .1 .0)) ∙ leap-remainder h l .0
 
   -- So what a test says of each kind it says of the year's own.
   pub year-passes : (p : ℕ → ℕ → Bool) → everyKind p ≡ true → p (weekday (newYear h)) (yearLength h) ≡ true
@@ -101,5 +107,5 @@ module _ (h : ℕ) (l : 1 ≤ h) (u : h ≤ lastNewYear) where
   pub near : (1461 * (h - 1) + 1390800 ≤ 4 * newYear h) × (4 * newYear h ≤ 1461 * h + 1390800)
   unfolding tests
   near =
-      let t = passed .1 .1 .1 .1 in
+      let t = passed .1 .1 .1 in
       rw (newYear-quick h l) (leb-true _ _ (t .0), leb-true _ _ (t .1 .0))

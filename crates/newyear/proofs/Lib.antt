@@ -1,4 +1,3 @@
-pub mod Late
 pub mod Quick
 pub mod Lengths
 pub mod Rise

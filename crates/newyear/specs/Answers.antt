@@ -6,9 +6,9 @@ use Rattle.days.specs.Weekday.{weekday}
 use Rattle.molad.specs.Units.{partsInHour}
 use Rattle.molad.specs.Years.{outOfYears, outOfNewYears, monthsIn}
 use Rattle.molad.specs.Molad.{moladDay, moladTime}
+use Rattle.delays.specs.declared.Delayed.{Delayed}
 use Rattle.newyear.specs.NewYear.{delayIn, newYear, yearLength, yearOf}
 use Rattle.newyear.specs.Kinds.{kindOf, kindNumber}
-use Rattle.newyear.specs.declared.delays.Delayed.{Delayed}
 use Rattle.newyear.specs.declared.NewYearAnswer.{NewYearAnswer}
 use Rattle.newyear.specs.declared.YearAnswer.{YearAnswer}
 use Rattle.newyear.specs.declared.kinds.KindAnswer.{KindAnswer}

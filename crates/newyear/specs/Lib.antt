@@ -1,4 +1,3 @@
-pub mod Delays
 pub mod NewYear
 pub mod Kinds
 pub mod Answers

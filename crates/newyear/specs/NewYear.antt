@@ -4,8 +4,8 @@ use Rattle.laws.specs.Begun.{begun}
 use Rattle.days.specs.Weekday.{weekday}
 use Rattle.molad.specs.Years.{lastYear, leap}
 use Rattle.molad.specs.Molad.{moladDay, moladTime}
-use Rattle.newyear.specs.Delays.{delayed}
-use Rattle.newyear.specs.declared.delays.Delayed.{Delayed}
+use Rattle.delays.specs.Delays.{delayed}
+use Rattle.delays.specs.declared.Delayed.{Delayed}
 
 -- How New Year is delayed after the molad of Tishri, code 1, and why.
 unfoldable pub delayIn : ℕ → Delayed

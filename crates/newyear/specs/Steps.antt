@@ -1,19 +1,13 @@
 -- What the steps of the code promise each other, and the crates that use them. A year's span stands in Spans.
 use mathlib.Core.Path.{_≡_}
-use mathlib.Core.Bool.{Bool, cond}
+use mathlib.Core.Bool.{cond}
 use Prim.Native.Nat.{ℕ, _+_, _≤_, _<_}
 use Rattle.days.specs.Weekday.{weekday}
 use Rattle.molad.specs.Units.{partsInDay}
 use Rattle.molad.specs.Molad.{moladDay, moladTime}
-use Rattle.newyear.specs.Delays.{delayed}
 use Rattle.newyear.specs.NewYear.{delayIn, newYear, yearOf}
-use Rattle.newyear.specs.declared.delays.Delayed.{Delayed}
 use Rattle.newyear.specs.declared.span.Found.{Found}
 use Rattle.newyear.specs.declared.tishri.Tishri.{Tishri}
-
--- The delay of a molad on weekday w at time t, and its cause.
-abbrev pub IsDelay : ℕ → ℕ → Bool → Bool → Delayed → Type 0
-IsDelay w t isLeap afterLeap r = (r ≡ delayed w t isLeap afterLeap) × (r .delay ≤ 2)
 
 -- New Year of year h, and the molad that it comes from.
 pub record Begins (h : ℕ) (t : Tishri) : Type 0 where

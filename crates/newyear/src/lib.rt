@@ -1,19 +1,15 @@
 // On which day does a Hebrew year begin, and why then; how long is it, of which kind, and which year holds a day.
 //
-// New Year is the day of the molad of Tishri, or one or two days later. Four delays put it off: a molad at noon or later
-// goes to the next day; New Year falls on no Sunday, Wednesday or Friday; and two rules for a molad late on a Tuesday or
-// a Monday keep a year from being too long or too short. The answers tell the delay in days and its cause, 0 to 5. A
-// year's length is the distance to the next New Year: 353, 354 or 355 days in a common year, 383, 384 or 385 in a leap
-// year. New Year's weekday and the length are a year's kind, one of fourteen, which alone fixes the weekday of every date.
-mod delays;
+// New Year is the day of the molad of Tishri, or one or two days later (`delays`). The answers tell the delay in days and
+// its cause, 0 to 5. A year's length is the distance to the next New Year: 353, 354 or 355 days in a common year, 383, 384
+// or 385 in a leap year. New Year's weekday and the length are a year's kind, one of fourteen, which alone fixes the
+// weekday of every date.
 mod kinds;
 mod span;
 mod tishri;
 
 ghost use mathlib.Core.Path.{_≡_};
 ghost use Rattle.newyear.specs.Answers.{newYearAnswer, yearAnswer, yearOfDayAnswer};
-pub use delays::Delayed;
-pub use delays::delay;
 pub use kinds::KindAnswer;
 pub use kinds::kind;
 pub use span::Span;

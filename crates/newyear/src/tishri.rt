@@ -1,7 +1,6 @@
 // New Year and the molad that it comes from.
 ghost use Rattle.molad.specs.Years.{InNewYears};
 ghost use Rattle.newyear.specs.Steps.{Begins};
-use crate::delays::delay;
 
 pub struct Tishri {
     pub new_year: u64,
@@ -21,7 +20,7 @@ pub fn begins(year: u64) -> Tishri
     let before = molad::months_before(year);
     let m = molad::molad_after(before.months);
     let weekday = days::weekday_of(m.day);
-    let late = delay(weekday, m.time, before.leap, before.after_leap);
+    let late = delays::delay(weekday, m.time, before.leap, before.after_leap);
     // The day after Saturday, 8, is Sunday again.
     let moved = weekday + late.delay;
     Tishri {

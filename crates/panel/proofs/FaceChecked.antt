@@ -7,7 +7,8 @@ use Rattle.newyear.proofs.Fixed.{words-fixed as years}
 use Rattle.rhodes.proofs.Fixed.{words-fixed as routes}
 use Rattle.hebrew.proofs.Fixed.{words-fixed as hebrew-dates}
 use Rattle.rest.proofs.Fixed.{words-fixed as rests}
-use Rattle.stretch.proofs.Fixed.{words-fixed as stretches}
+use Rattle.stretch.proofs.Fixed.{words-fixed as stretch}
+use Rattle.stretches.proofs.Fixed.{words-fixed as stretches}
 use Rattle.sheet.proofs.Fixed.{words-fixed as sheets}
 use Rattle.loaded.proofs.Fixed.{words-fixed as loads}
 use Rattle.panel.specs.FaceChecked.{FaceChecked}
@@ -30,7 +31,7 @@ face-checked =
       bd-year = (years .years .2, years .no-years .1 .0);
       bd-kind = (years .kinds .5, years .no-years .0 .1);
       bd-year-of-day = (years .held .2, years .not-held .1);
-      bd-stretch = (stretches .second-days .1, stretches .second-days .0, stretches .no-wing .1);
+      bd-stretch = (stretch .second-days .1, stretch .second-days .0, stretch .no-wing .1);
       bd-rest-days = (rests .guest-wing .0, rests .guest-wing .1, rests .no-wing .1 .0, rests .no-wing .1 .1);
       bd-stretches = (stretches .guest-wing, stretches .short .1 .0);
       bd-sheet-write = (sheets .guest-wing, sheets .no-years .3 .0);

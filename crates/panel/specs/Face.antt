@@ -25,7 +25,8 @@ use Rattle.hebrew.specs.declared.HebrewDay.{HebrewDay}
 use Rattle.hebrew.specs.declared.HebrewDate.{HebrewDate}
 use Rattle.rest.specs.Answers.{wingRestDays, wingRestDaysBuffer}
 use Rattle.rest.specs.declared.ListAnswer.{ListAnswer}
-use Rattle.stretch.specs.Answers.{wingStretch, wingStretches, wingStretchesBuffer}
+use Rattle.stretch.specs.Answers.{wingStretch}
+use Rattle.stretches.specs.Answers.{wingStretches, wingStretchesBuffer}
 use Rattle.stretch.specs.declared.StretchAnswer.{StretchAnswer}
 use Rattle.sheet.specs.Answers.{wingSheet, wingSheetBuffer}
 use Rattle.loaded.specs.Rows.{rowsAnswer, namedAnswer}

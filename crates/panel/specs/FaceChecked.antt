@@ -8,7 +8,7 @@ use lib.IntN.{pos, negsuc}
 use lib.ListN.{length, take}
 use Rattle.rest.specs.Fixed.{fourteen}
 use Rattle.sheet.specs.Fixed.{sheetOf5775, guestSheet}
-use Rattle.loaded.specs.Fixed.{one, guest}
+use Rattle.accepted.specs.Fixed.{one, guest}
 use Rattle.panel.specs.Face.{bdWeekday, bdJulianToDay, bdGregorianToDay, bdDayToJulian, bdDayToGregorian, bdMonthLength, bdHebrewToDay, bdDayToHebrew, bdMolad, bdNotice, bdNewYear, bdNewYearRhodes, bdYear, bdKind, bdYearOfDay, bdStretch, bdRestDays, bdRestDaysLeaves, bdStretches, bdStretchesLeaves, bdSheetWrite, bdSheetWriteLeaves, bdSheetRows, bdSheetsRows, bdWalkBegin, bdWalkNext}
 
 pub record FaceChecked : Type 0 where

@@ -20,5 +20,5 @@ pub extern "C" fn bd_rest_days(wing: u64, year: u64, out: &mut [u64]) -> rest::L
 pub extern "C" fn bd_stretches(wing: u64, year: u64, out: &mut [u64]) -> rest::ListAnswer
     ensures { λ r. ⌜ (r ≡ bdStretches wing year (now (out .entry))) × (now (out .exit) ≡ bdStretchesLeaves wing year (now (out .entry))) ⌝ }
 {
-    stretch::stretches(wing, year, out)
+    stretches::stretches(wing, year, out)
 }

@@ -10,9 +10,9 @@ use lib.Dec.{eqb, leb, ltb}
 use borrow.Author.Tests.{le-leb, lt-leb, le-ltb, lt-ltb}
 use Rattle.laws.specs.Runs.{every, eitherWay}
 use Rattle.laws.proofs.Tests.{cond-le, at, whether, all, Each, facts}
-use Rattle.newyear.specs.Delays.{closed, delayed}
-use Rattle.newyear.specs.declared.delays.Delayed.{Delayed}
-use Rattle.newyear.proofs.Late.{alike, are-alike, byTimes, by-times}
+use Rattle.delays.specs.Delays.{closed, delayed}
+use Rattle.delays.specs.declared.Delayed.{Delayed}
+use Rattle.delays.proofs.Late.{alike, are-alike, byTimes, by-times}
 use Rattle.rhodes.specs.Rhodes.{moladAugust, moladPart, pastNoon, noonAugust, weekdayLine, mondayLine, tuesdayLine, lateBy, delayOf, causeBy, rhodesDelay}
 
 -- After the noon step neither the Monday nor the Tuesday line can fire.

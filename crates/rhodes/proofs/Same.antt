@@ -12,7 +12,7 @@ use Rattle.laws.proofs.Tests.{within}
 use Rattle.days.specs.Weekday.{weekday}
 use Rattle.molad.specs.Years.{lastNewYear, outOfNewYears, leap}
 use Rattle.molad.specs.Molad.{moladDay, moladTime}
-use Rattle.newyear.specs.Delays.{delayed}
+use Rattle.delays.specs.Delays.{delayed}
 use Rattle.newyear.specs.NewYear.{delayIn, newYear}
 use Rattle.newyear.specs.Answers.{newYearOn, newYearAnswer}
 use Rattle.rhodes.specs.Rhodes.{place, sinceLeap, distance, moladAugust, moladPart, pastNoon, noonAugust, noonPart, weekdayOfAugust, lateBy, delayOf, rhodesDelay, dayOfAugust, rhodesNewYear, rhodesMoladDay, rhodesMoladTime}

@@ -7,8 +7,8 @@ use Prim.Native.Nat.{ℕ, _+_, _*_, _-_, _/_, _%_}
 use lib.Dec.{eqb, ltb, leb}
 use Rattle.laws.specs.Runs.{elem}
 use Rattle.civil.specs.Calendar.{dayOf, julian}
-use Rattle.newyear.specs.Delays.{noCause, noonCause, weekdayCause, noonThenWeekday, tuesdayCause, mondayCause}
-use Rattle.newyear.specs.declared.delays.Delayed.{Delayed}
+use Rattle.delays.specs.Delays.{noCause, noonCause, weekdayCause, noonThenWeekday, tuesdayCause, mondayCause}
+use Rattle.delays.specs.declared.Delayed.{Delayed}
 
 -- n = (12H + 5) mod 19: the year's place in the cycle of 19 years, in the order in which their molads come in August.
 unfoldable pub place : ℕ → ℕ

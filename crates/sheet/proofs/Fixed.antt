@@ -18,10 +18,10 @@ use Rattle.hebrew.specs.Dates.{monthOf}
 use Rattle.hebrew.specs.Steps.{yearDate, tomorrow}
 use Rattle.rest.specs.Wings.{IsWing, tableOf}
 use Rattle.rest.specs.Steps.{restAt}
-use Rattle.stretch.specs.Stretches.{stretchRows}
-use Rattle.stretch.specs.Steps.{runBefore, rowsAt}
-use Rattle.stretch.proofs.OfKind.{entries, entriesOf}
-use Rattle.stretch.proofs.Fixed.{long-from, begins-from}
+use Rattle.stretches.specs.Stretches.{stretchRows}
+use Rattle.stretches.specs.Steps.{runBefore, rowsAt}
+use Rattle.stretches.proofs.OfKind.{entries, entriesOf}
+use Rattle.stretches.proofs.Fixed.{long-from, begins-from}
 use Rattle.layout.specs.Layout.{littleEndian, headerBytes, entryBytes, rowBytes}
 use Rattle.layout.specs.Reading.{worth, numberAt}
 use Rattle.sheet.specs.Sheet.{mostYears, rowOf, rowsIn, yearRows, rowsBefore, sheetSize, entryOf, sheet}

@@ -3,6 +3,5 @@ pub mod Years
 pub mod Pairs
 pub mod ReadBack
 pub mod Answers
-pub mod Windows
 pub mod Room
 pub mod Fixed

@@ -6,7 +6,7 @@ use native.Mathlib.Omega.{arith}
 use lib.ListN.{length, getD, take}
 use lib.Seq.{take-suc, take-all}
 use Rattle.laws.specs.Joined.{joined}
-use Rattle.stretch.specs.Promises.{Listed, here, there}
+use Rattle.stretches.specs.Promises.{Listed, here, there}
 
 -- Entries 2k and 2k + 1.
 abbrev pub pairAt : List ℕ → ℕ → List ℕ

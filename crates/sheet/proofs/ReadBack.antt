@@ -17,9 +17,9 @@ use Rattle.newyear.proofs.Lengths.{length-in}
 use Rattle.rest.specs.Wings.{IsWing, tableOf}
 use Rattle.rest.proofs.Passed.{tables-pass}
 use Rattle.rest.proofs.RestOfYear.{rest-in-range}
-use Rattle.stretch.specs.Stretches.{stretchRows}
-use Rattle.stretch.proofs.WholeList.{stretches-of, two-each}
-use Rattle.stretch.proofs.OfKind.{few, most-in-room}
+use Rattle.stretches.specs.Stretches.{stretchRows}
+use Rattle.stretches.proofs.WholeList.{stretches-of, two-each}
+use Rattle.stretches.proofs.OfKind.{few, most-in-room}
 use Rattle.stretch.proofs.Answers.{either-wing}
 use Rattle.sheet.specs.Sheet.{mostYears, rowOf, rowsIn, yearRows, rowsBefore, sheetSize, entryOf, sheet}
 use Rattle.sheet.specs.Promises.{offsetTold, rowsTold, lengthTold, rowsToldBefore, stretchesTold, SheetOf}

@@ -12,7 +12,7 @@ use Rattle.molad.specs.Years.{InYears}
 use Rattle.newyear.specs.NewYear.{yearLength}
 use Rattle.rest.specs.Wings.{IsWing, tableOf}
 use Rattle.rest.specs.declared.ListAnswer.{ListAnswer}
-use Rattle.stretch.specs.Promises.{StretchesOf}
+use Rattle.stretches.specs.Promises.{StretchesOf}
 use Rattle.sheet.specs.Sheet.{mostYears, sheetSize}
 
 -- What the index tells of the sheet's year i, counted from 0: where its first row stands, how many rows it has, and its

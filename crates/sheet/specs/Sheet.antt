@@ -7,7 +7,7 @@ use Rattle.laws.specs.Joined.{joined, total}
 use Rattle.layout.specs.Layout.{rowsOffset, headerBytes, entryBytes, rowBytes}
 use Rattle.newyear.specs.NewYear.{yearLength}
 use Rattle.rest.specs.Wings.{tableOf}
-use Rattle.stretch.specs.Stretches.{stretchRows}
+use Rattle.stretches.specs.Stretches.{stretchRows}
 
 -- A sheet holds 1 to 100 years.
 abbrev pub mostYears : ℕ

@@ -13,8 +13,8 @@ fn rows_in(wing: u64, span: newyear::Span) -> u64
     requires { ⌜ Spans (span .year) span ⌝ }
     ensures { λ r. ⌜ (r ≡ rowsIn wing (span .year)) × (r ≤ 60) ⌝ }
 {
-    let mut list = [0u64; stretch::STRETCHES_ROOM];
-    stretch::year_rows(wing, span, &mut list) as u64 / 2
+    let mut list = [0u64; stretches::STRETCHES_ROOM];
+    stretches::year_rows(wing, span, &mut list) as u64 / 2
 }
 
 // How many rows the years have.
@@ -48,8 +48,8 @@ fn write_year(wing: u64, span: newyear::Span, out: &mut [u8], at: usize) -> usiz
     requires { ⌜ (Spans (span .year) span) × (at + 6 * rowsIn wing (span .year) ≤ ListN·length (now out)) ⌝ }
     ensures { λ r. ⌜ (r ≡ rowsIn wing (span .year)) × ((r ≤ 60) × (now (out .exit) ≡ sets (now (out .entry)) at (yearRows wing (span .year)))) ⌝ }
 {
-    let mut list = [0u64; stretch::STRETCHES_ROOM];
-    let entries = stretch::year_rows(wing, span, &mut list);
+    let mut list = [0u64; stretches::STRETCHES_ROOM];
+    let entries = stretches::year_rows(wing, span, &mut list);
     write_list(wing, &list[..entries], out, at);
     entries / 2
 }

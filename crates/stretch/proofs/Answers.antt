@@ -1,37 +1,30 @@
--- What `stretch` and `stretches` promise, for any table that passes the check and so for either wing's; and that each
--- contract leaves one answer and one state of the lent buffer.
+-- What `stretch` promises, for any table that passes the check and so for either wing's; and that its contract leaves one
+-- answer.
 use mathlib.Core.Path.{_≡_, refl, sym}
 use mathlib.Core.Bool.{true}
 use mathlib.Core.List.{List}
 use mathlib.Core.Logic.{by-cases}
-use Prim.Native.Nat.{ℕ, suc, _+_, _*_, _-_, _/_, _≤_}
+use Prim.Native.Nat.{ℕ, suc, _+_, _-_, _≤_}
 use native.Mathlib.Omega.{arith}
 use native.Mathlib.Decide.{decLt}
 use borrow.Author.Tests.{lt-ltb, le-ltb, le-leb, ltb-true, ltb-false}
 use lib.Dec.{ltb}
 use lib.IntN.{pos, negsuc, subℕ}
 use lib.Signed.{_≤ℤ_}
-use lib.ListN.{length, take}
 use Rattle.laws.specs.Promise.{SmallestAfter}
-use Rattle.laws.specs.Buffer.{Lent, overwrite}
 use Rattle.laws.proofs.One.{one-result}
 use Rattle.laws.proofs.Signed.{minus}
-use Rattle.laws.proofs.Stores.{list-written}
 use Rattle.laws.proofs.Promises.{Catches, ranged, asks, answered, smallest-after}
 use Rattle.days.specs.Range.{firstDay, lastDay, InRange}
 use Rattle.rest.specs.Wings.{tableOf}
 use Rattle.rest.specs.Check.{passes}
-use Rattle.rest.specs.Answers.{noList}
 use Rattle.rest.proofs.Passed.{tables-pass}
-use Rattle.rest.proofs.Wings.{wing-promised, wing-lent}
-use Rattle.rest.proofs.Answers.{list-promised, list-lent}
-use Rattle.rest.specs.declared.ListAnswer.{ListAnswer}
-use Rattle.stretch.specs.Stretches.{nextRest, stretchFirst, stretchRows}
-use Rattle.stretch.specs.Promises.{StretchAhead, Shared, askedOfDay, StretchTold, StretchesOf, askedOfYear, StretchesTold, PromisedStretch, PromisedStretches}
-use Rattle.stretch.specs.Answers.{noStretch, stretchAnswer, stretchesAnswer, stretchesBuffer, wingStretch, wingStretches, wingStretchesBuffer}
+use Rattle.rest.proofs.Wings.{wing-promised}
+use Rattle.stretch.specs.Stretches.{nextRest, stretchFirst}
+use Rattle.stretch.specs.Promises.{StretchAhead, Shared, askedOfDay, StretchTold, PromisedStretch}
+use Rattle.stretch.specs.Answers.{noStretch, stretchAnswer, wingStretch}
 use Rattle.stretch.specs.declared.StretchAnswer.{StretchAnswer}
 use Rattle.stretch.proofs.Theorems.{at-most-three, no-crossing, stretch-ahead, stretch-for, days-left, none-ahead}
-use Rattle.stretch.proofs.WholeList.{stretches-of, two-each}
 
 -- Signed, from -2 to 6.
 few-left : (a b : ℕ) → a ≤ b + 6 → b ≤ a + 2 → (negsuc 1 ≤ℤ subℕ a b) × (subℕ a b ≤ℤ pos 6)
@@ -80,11 +73,6 @@ module _ (table : List ℕ) (ok : passes table ≡ true) where
       answered refl
       (f, (at-most-three table ok _ _ (f .a-stretch), (sym (minus (stretchFirst table j) j), few-left (stretchFirst table j) j (d .0) (d .1))))))
 
-  pub stretches-told : (h : ℕ) (buffer : List ℕ) → StretchesTold (askedOfYear table h buffer) table h (stretchesAnswer table h buffer)
-  stretches-told h buffer =
-      let p = list-promised h buffer (stretchRows table h) (length (stretchRows table h) / 2) in
-      record { done = p .done; values = λ m. rw (p .values m) (two-each table ok h); refused = p .refused; besides = p .besides }
-
 -- So for the wing that is named, which is asked first.
 module _ (wing : ℕ) where
   pub either-wing : Shared (tableOf wing)
@@ -94,48 +82,10 @@ module _ (wing : ℕ) where
   stretch-promised j =
       wing-promised wing (noStretch 15) (λ table. stretchAnswer table j) refl (refl, (refl, refl)) (stretch-told (tableOf wing) (tables-pass wing) j)
 
-  pub stretches-promised : (h : ℕ) (buffer : List ℕ) → PromisedStretches wing h buffer (wingStretches wing h buffer)
-  stretches-promised h buffer =
-      wing-promised wing (noList 15) (λ table. stretchesAnswer table h buffer) refl refl (stretches-told (tableOf wing) (tables-pass wing) h buffer)
-
-  pub stretches-lent :
-      (h : ℕ) (buffer : List ℕ) → Lent (wingStretches wing h buffer .refusal) (stretchRows (tableOf wing) h) buffer (wingStretchesBuffer wing h buffer)
-  stretches-lent h buffer =
-      let rows = stretchRows (tableOf wing) h in
-      wing-lent wing rows buffer (λ table. stretchesAnswer table h buffer) (λ table. stretchesBuffer table h buffer)
-      (list-lent h buffer rows (length rows / 2))
-
-  -- What stands in the buffer when the call is done, two entries for each stretch.
-  pub stretches-given :
-      (h : ℕ) (buffer : List ℕ) → wingStretches wing h buffer .refusal ≡ 0 →
-      StretchesOf (tableOf wing) h (take (2 * wingStretches wing h buffer .count) (wingStretchesBuffer wing h buffer))
-  stretches-given h buffer z =
-      let t = stretches-promised h buffer in
-      let met = t .done .0 z in
-      rw (list-written (stretchRows (tableOf wing) h) buffer _ _ _ (stretches-lent h buffer) z (sym (t .values met)))
-      (stretches-of (tableOf wing) (tables-pass wing) h (met .1 .0 .0) (met .1 .0 .1))
-
   -- Where the wing is 1 or 2 the smallest refusal is given.
   pub stretch-smallest : (j : ℕ) → SmallestAfter (stretch-promised j)
   stretch-smallest j = smallest-after (stretch-promised j) (omega arith, (omega arith, tt))
 
-  pub stretches-smallest : (h : ℕ) (buffer : List ℕ) → SmallestAfter (stretches-promised h buffer)
-  stretches-smallest h buffer = smallest-after (stretches-promised h buffer) (omega arith, (omega arith, tt))
-
-  -- One answer, and one state of the buffer.
+  -- One answer.
   pub stretch-one : (j : ℕ) (r s : StretchAnswer) → r ≡ wingStretch wing j → s ≡ wingStretch wing j → r ≡ s
   stretch-one j = one-result (wingStretch wing j)
-
-  pub stretches-one : (h : ℕ) (buffer : List ℕ) (r s : ListAnswer) → r ≡ wingStretches wing h buffer → s ≡ wingStretches wing h buffer → r ≡ s
-  stretches-one h buffer = one-result (wingStretches wing h buffer)
-
-  pub stretches-buffer-one : (h : ℕ) (buffer r s : List ℕ) → r ≡ wingStretchesBuffer wing h buffer → s ≡ wingStretchesBuffer wing h buffer → r ≡ s
-  stretches-buffer-one h buffer = one-result (wingStretchesBuffer wing h buffer)
-
-  -- And of the step that works out a year's stretches, for the sheet too.
-  pub year-rows-one : (h r s : ℕ) → r ≡ length (stretchRows (tableOf wing) h) → s ≡ length (stretchRows (tableOf wing) h) → r ≡ s
-  year-rows-one h = one-result (length (stretchRows (tableOf wing) h))
-
-  pub year-rows-buffer-one :
-      (h : ℕ) (buffer r s : List ℕ) → r ≡ overwrite buffer (stretchRows (tableOf wing) h) → s ≡ overwrite buffer (stretchRows (tableOf wing) h) → r ≡ s
-  year-rows-buffer-one h buffer = one-result (overwrite buffer (stretchRows (tableOf wing) h))

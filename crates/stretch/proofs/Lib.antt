@@ -1,12 +1,6 @@
 pub mod Answered
 pub mod Answers
-pub mod Ended
-pub mod Growing
-pub mod OfKind
-pub mod Room
-pub mod SameKind
 pub mod Theorems
 pub mod Walk
-pub mod WholeList
 pub mod Year
 pub mod Fixed

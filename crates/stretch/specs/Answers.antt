@@ -1,16 +1,12 @@
--- What `stretch` and `stretches` answer, and what `stretches` makes of a lent buffer. First by a table; then for the wing
--- that is named.
+-- What `stretch` answers. First by a table; then for the wing that is named.
 use mathlib.Core.Bool.{cond}
 use mathlib.Core.List.{List}
-use Prim.Native.Nat.{ℕ, _-_, _/_}
+use Prim.Native.Nat.{ℕ, _-_}
 use lib.Dec.{ltb}
 use lib.IntN.{pos, subℕ}
-use lib.ListN.{length}
 use Rattle.days.specs.Range.{lastDay, outOfRange}
 use Rattle.rest.specs.Wings.{ofWing}
-use Rattle.rest.specs.Answers.{noList, listAnswer, listBuffer}
-use Rattle.stretch.specs.Stretches.{nextRest, stretchFirst, stretchPast, stretchRows}
-use Rattle.rest.specs.declared.ListAnswer.{ListAnswer}
+use Rattle.stretch.specs.Stretches.{nextRest, stretchFirst, stretchPast}
 use Rattle.stretch.specs.declared.StretchAnswer.{StretchAnswer}
 
 abbrev pub noStretch : ℕ → StretchAnswer
@@ -27,19 +23,6 @@ stretchAnswer table j =
     (cond (ltb lastDay (nextRest table j)) (noStretch 9)
     (stretchOn j (stretchFirst table j) (stretchPast table j)))
 
--- Two entries for each stretch.
-abbrev pub stretchesAnswer : List ℕ → ℕ → List ℕ → ListAnswer
-stretchesAnswer table h buffer = listAnswer h buffer (stretchRows table h) (length (stretchRows table h) / 2)
-
-abbrev pub stretchesBuffer : List ℕ → ℕ → List ℕ → List ℕ
-stretchesBuffer table h buffer = listBuffer h buffer (stretchRows table h)
-
 -- Refusal 15: the wing is neither 1 nor 2.
 abbrev pub wingStretch : ℕ → ℕ → StretchAnswer
 wingStretch wing j = ofWing wing (noStretch 15) (λ table. stretchAnswer table j)
-
-abbrev pub wingStretches : ℕ → ℕ → List ℕ → ListAnswer
-wingStretches wing h buffer = ofWing wing (noList 15) (λ table. stretchesAnswer table h buffer)
-
-abbrev pub wingStretchesBuffer : ℕ → ℕ → List ℕ → List ℕ
-wingStretchesBuffer wing h buffer = ofWing wing buffer (λ table. stretchesBuffer table h buffer)

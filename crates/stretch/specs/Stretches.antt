@@ -1,10 +1,8 @@
 -- Stretches. A stretch is a longest run of rest days next to each other, within the range: `Run (restDay table)`.
-use mathlib.Core.Bool.{Bool, _&&_, not, cond}
-use mathlib.Core.List.{List, [], _∷_, _++_}
-use Prim.Native.Nat.{ℕ, zero, suc, _+_, _-_, _≤_, _<_}
+use mathlib.Core.List.{List}
+use Prim.Native.Nat.{ℕ, _+_, _-_, _≤_, _<_}
 use Rattle.laws.specs.Search.{Run, seek, seekNot, runStart}
 use Rattle.days.specs.Range.{lastDay}
-use Rattle.newyear.specs.NewYear.{newYear, yearLength}
 use Rattle.rest.specs.Table.{restDay}
 
 -- Asked for a day j, the library gives the earliest stretch whose last day is that day or later.
@@ -29,20 +27,3 @@ stretchFirst table j = runStart (restDay table) (nextRest table j)
 
 unfoldable pub stretchPast : List ℕ → ℕ → ℕ
 stretchPast table j = seekNot (restDay table) (daysFrom (nextRest table j)) (nextRest table j)
-
--- The day is a stretch's first.
-unfoldable pub begins : (ℕ → Bool) → ℕ → Bool
-begins rest j = rest j && not (rest (j - 1))
-
--- A stretch's first day and length, where one begins on day j.
-unfoldable pub rowAt : (ℕ → Bool) → ℕ → List ℕ
-rowAt rest j = cond (begins rest j) (j ∷ (seekNot rest (daysFrom j) j - j) ∷ []) []
-
--- First day and length of each stretch that begins on one of the n days from day j on, rising.
-unfoldable pub rows : (ℕ → Bool) → ℕ → ℕ → List ℕ
-rows rest j zero = []
-rows rest j (suc n) = rows rest j n ++ rowAt rest (j + n)
-
--- The stretches of a year are those that begin in it.
-unfoldable pub stretchRows : List ℕ → ℕ → List ℕ
-stretchRows table h = rows (restDay table) (newYear h) (yearLength h)

@@ -10,7 +10,7 @@ use lib.Seq.{take-append-seam}
 use Rattle.laws.specs.Buffer.{overwrite}
 use Rattle.newyear.specs.NewYear.{yearLength}
 use Rattle.rest.specs.Wings.{tableOf}
-use Rattle.stretch.specs.Stretches.{stretchRows}
+use Rattle.stretches.specs.Stretches.{stretchRows}
 use Rattle.sheet.specs.Sheet.{rowsIn}
 use Rattle.sheet.specs.Promises.{offsetTold, rowsTold, lengthTold}
 use Rattle.content.specs.Content.{yearAgrees}

@@ -1,7 +1,7 @@
 use borrow.Author.Needs.{needs}
 use mathlib.Core.Path.{sym, _∙_}
 use Rattle.loaded.specs.Walk.{endedRow, begunAt}
-use Rattle.loaded.proofs.Accepted.{where-accepted, where-refused}
+use Rattle.accepted.proofs.Accepted.{where-accepted, where-refused}
 use Rattle.loaded.proofs.walk.first_row.Statement.{statement}
 use Rattle.loaded.proofs.walk.first_row.Tie as tie
 

@@ -5,9 +5,9 @@ use native.Mathlib.Omega.{arith}
 use lib.ListN.{length}
 use Rattle.laws.proofs.Tests.{within}
 use Rattle.sheet.specs.Promises.{offsetTold, rowsTold}
-use Rattle.loaded.specs.Check.{loadedRefusal}
-use Rattle.loaded.specs.Promises.{WritersYears, Placed}
-use Rattle.loaded.proofs.Accepted.{accepted}
+use Rattle.accepted.specs.Check.{loadedRefusal}
+use Rattle.accepted.specs.Promises.{WritersYears, Placed}
+use Rattle.accepted.proofs.Accepted.{accepted}
 use Rattle.loaded.proofs.Answers.{rows-refused, rows-of-sheet}
 use Rattle.loaded.proofs.years.rows_place.Statement.{statement}
 use Rattle.loaded.proofs.years.rows_place.Tie as tie

@@ -10,8 +10,8 @@ use borrow.Author.Tests.{lt-ltb, le-ltb}
 use lib.Dec.{ltb}
 use Rattle.days.specs.Weekday.{weekday}
 use Rattle.molad.specs.Molad.{moladDay, moladTime}
+use Rattle.delays.specs.declared.Delayed.{Delayed}
 use Rattle.newyear.specs.NewYear.{delayIn, newYear}
-use Rattle.newyear.specs.declared.delays.Delayed.{Delayed}
 use Rattle.newyear.proofs.Quick.{tishri-day, tishri-time}
 use Rattle.newyear.proofs.tishri.begins.Statement.{statement}
 use Rattle.newyear.proofs.tishri.begins.Tie as tie

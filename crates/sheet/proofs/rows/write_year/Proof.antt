@@ -6,7 +6,7 @@ use lib.ListN.{length as count, take}
 use lib.Seq.{take-append-seam}
 use Rattle.laws.specs.Buffer.{overwrite}
 use Rattle.rest.specs.Wings.{tableOf}
-use Rattle.stretch.specs.Stretches.{stretchRows}
+use Rattle.stretches.specs.Stretches.{stretchRows}
 use Rattle.sheet.specs.Sheet.{rowsIn, yearRows}
 use Rattle.sheet.proofs.rows.write_year.Statement.{statement}
 use Rattle.sheet.proofs.rows.write_year.Tie as tie

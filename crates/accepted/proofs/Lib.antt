@@ -1,0 +1,4 @@
+pub mod Accepted
+pub mod Exactly
+pub mod Answers
+pub mod Fixed

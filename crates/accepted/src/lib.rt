@@ -1,0 +1,79 @@
+// Are bytes accepted for a wing's sheet?
+//
+// A panel holds the bytes of a sheet as they were loaded, and nothing is known of them. So before anything is taken out they
+// must be enough for a header, the header must name years that a sheet can have, header, index and size must fit each other
+// to the byte, and year lengths, rows and wing bytes must be the calendar's for the wing that the caller names. They pass
+// exactly if a writer could have written them for that wing (theorem `accepted-exactly`). Every number that is read off a
+// sheet is at most 4 bytes long and is worked with in 64 bits, so that no sum and no product of them wraps.
+ghost use mathlib.Core.Path.{_≡_};
+ghost use mathlib.Core.Bool.{_&&_};
+ghost use Prim.Native.Nat.{_≤_};
+ghost use lib.Dec.{eqb};
+ghost use lib.ListN.{length as ListN·length};
+ghost use Rattle.layout.specs.Layout.{rowsOffset};
+ghost use Rattle.sheet.specs.Promises.{rowsToldBefore};
+ghost use Rattle.accepted.specs.Check.{yearsTold, indexPlaced, placed, loadedRefusal};
+
+// Does the index lead each year to the rows behind those of the years before it, and has it so many rows in all?
+fn index_placed(sheet: &[u8], years: u64, rows: u64) -> bool
+    requires { ⌜ (years ≤ 100) × (rowsOffset years ≤ ListN·length (now sheet)) ⌝ }
+    ensures { λ r. ⌜ r ≡ indexPlaced (now (sheet .entry)) years && eqb rows (rowsToldBefore (now (sheet .entry)) years) ⌝ }
+{
+    let mut placed = true;
+    let mut before = 0;
+    let mut i = 0;
+    while i < years {
+        let entry = 16 + 8 * i as usize;
+        placed = placed & (layout::four_at(sheet, entry) == 16 + 8 * years + 6 * before);
+        before += layout::two_at(sheet, entry + 4);
+        i += 1;
+    }
+    placed & (rows == before)
+}
+
+// Do header, index and size fit each other?
+fn all_placed(sheet: &[u8], years: u64) -> bool
+    requires { ⌜ (16 ≤ ListN·length (now sheet)) × ((years ≡ yearsTold (now sheet)) × (years ≤ 100)) ⌝ }
+    ensures { λ r. ⌜ r ≡ placed (now (sheet .entry)) ⌝ }
+{
+    let rows = layout::four_at(sheet, 4);
+    if layout::four_at(sheet, 8) != 16 {
+        return false;
+    }
+    if layout::four_at(sheet, 12) != 16 + 8 * years {
+        return false;
+    }
+    if sheet.len() as u64 != 16 + 8 * years + 6 * rows {
+        return false;
+    }
+    index_placed(sheet, years, rows)
+}
+
+// Why the bytes are not accepted for a sheet of the wing, or 0. Refusal 15: a wing that is neither 1 nor 2. 16: fewer than 16
+// bytes. 17: a count of years, a first or a last year that no writer puts on a sheet. 18: header, index and size do not fit
+// each other. 19: rows, wing byte or year lengths differ from the calendar's.
+pub fn sheet_refusal(wing: u64, sheet: &[u8]) -> u64
+    ensures { λ r. ⌜ r ≡ loadedRefusal wing (now (sheet .entry)) ⌝ }
+{
+    if rest::out_of_wings(wing) {
+        return 15;
+    }
+    if sheet.len() < 16 {
+        return 16;
+    }
+    let years = layout::two_at(sheet, 0);
+    if (years < 1) | (sheet::MOST_YEARS < years) {
+        return 17;
+    }
+    let first_year = layout::two_at(sheet, 2);
+    if sheet::ends_outside(first_year, years) {
+        return 17;
+    }
+    if !all_placed(sheet, years) {
+        return 18;
+    }
+    if !content::content_agrees(wing, sheet, first_year, years) {
+        return 19;
+    }
+    0
+}

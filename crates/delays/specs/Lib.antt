@@ -1,0 +1,4 @@
+pub mod Delays
+pub mod Steps
+pub mod Promises
+pub mod Fixed
