@@ -35,7 +35,10 @@ pub fn print_cuts(wing: u64, sheet: &[u8]) -> bool {
     let mut counts = [0; 20];
     let mut n = 0;
     while n < sheet.len() {
-        counted(&mut counts, accepted::sheet_refusal(wing, sheet_of(sheet, n)));
+        counted(
+            &mut counts,
+            accepted::sheet_refusal(wing, sheet_of(sheet, n)),
+        );
         n += 1;
     }
     print_counts(&counts)
