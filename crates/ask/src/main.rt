@@ -1,12 +1,10 @@
 // Reads questions, one to a line of standard input, and answers each.
 //
 // A line that begins with # is written out as it is. A line that is no question, or has too few, too many or bad words, is
-// answered `not understood`. The questions are told in ask_calls, ask_lists and ask_sheets; pages.rt has those of the
-// programs' pages.
-mod pages;
-
-use ask_sheets::Held;
-use ask_sheets::ROOM;
+// answered `not understood`. The questions are told in ask_dates, ask_years, ask_runs, ask_lists,
+// ask_sheets and ask_pages.
+use ask_held::Held;
+use ask_held::ROOM;
 use line::LINE_END;
 
 const HASH: u8 = 35;
@@ -34,12 +32,12 @@ fn answer(line: &[u8], one: &mut [u8], two: &mut [u8], held: Held) -> Held {
     let name = asking::first_word(line);
     let words = asking::later_words(line);
     let numbers = asking::read_numbers(words);
-    if ask_lists::answered(name, numbers) | pages::answered(name, words) {
+    if ask_lists::answered(name, numbers) | ask_pages::answered(name, words) {
         return held;
     }
     let after = ask_sheets::answered(name, numbers, one, two, held);
     if !after.understood {
-        asking::print(ask_calls::answer(line));
+        asking::print(ask_runs::answer(line));
     }
     after
 }
@@ -71,7 +69,7 @@ fn turn(space: &[u8], one: &mut [u8], two: &mut [u8], held: Held) -> Held {
         asking::print(asking::no_answer());
         return held;
     }
-    answer(ask_sheets::sheet_of(space, n), one, two, held)
+    answer(ask_held::sheet_of(space, n), one, two, held)
 }
 
 fn answer_all(one: &mut [u8], two: &mut [u8]) {

@@ -18,18 +18,12 @@
 //                                  many are refused with each number
 //
 // What changes the sheet is answered with its length.
-mod changed;
-mod fields;
-mod held;
 mod rows;
 
+use ask_held::Held;
+use ask_held::sheet_of;
+use ask_held::unless;
 use asking::Numbers;
-pub use held::Held;
-pub use held::ROOM;
-use held::long;
-pub use held::sheet_of;
-use held::unless;
-pub use held::wide;
 
 // Questions that leave the sheet as it is; false if it is none of them.
 fn read<'a>(name: &[u8], numbers: Numbers, sheet: &'a [u8], other: &'a [u8]) -> bool {
@@ -41,8 +35,8 @@ fn read<'a>(name: &[u8], numbers: Numbers, sheet: &'a [u8], other: &'a [u8]) -> 
         2 => rows::print_walk(n[0], sheet, n[1]),
         3 => rows::print_walk_sum(n[0], sheet, n[1]),
         4 => rows::print_rows_sum(n[0], sheet, n[1], n[2]),
-        5 => fields::print(sheet),
-        6 => changed::print_cuts(n[0], sheet),
+        5 => ask_held::print_fields(sheet),
+        6 => ask_changes::print_cuts(n[0], sheet),
         _ => false,
     }
 }
@@ -56,11 +50,11 @@ fn change(name: &[u8], numbers: Numbers, sheet: &mut [u8], other: &[u8], held: H
         name,
         numbers,
     ) {
-        0 => held::write(n[0], n[1], n[2], n[3], sheet, held),
-        1 => held::lengthen(n[0], sheet, held),
-        2 => held::put(n[0], n[1], n[2], sheet, held),
-        3 => held::copy(n[0], n[1], other, sheet, held),
-        4 => changed::print_changes(n, sheet, held),
+        0 => ask_held::write(n[0], n[1], n[2], n[3], sheet, held),
+        1 => ask_held::lengthen(n[0], sheet, held),
+        2 => ask_held::put(n[0], n[1], n[2], sheet, held),
+        3 => ask_held::copy(n[0], n[1], other, sheet, held),
+        4 => ask_changes::print_changes(n, sheet, held),
         _ => unless(
             read(
                 name,
@@ -76,7 +70,7 @@ fn change(name: &[u8], numbers: Numbers, sheet: &mut [u8], other: &[u8], held: H
 // Answers a question; `understood` tells whether it was one.
 pub fn answered(name: &[u8], numbers: Numbers, one: &mut [u8], two: &mut [u8], held: Held) -> Held {
     if asking::asked(b"exchange", b"0", name, numbers) == 0 {
-        return long(
+        return ask_held::long(
             held.other,
             Held {
                 understood: true,

@@ -1,5 +1,5 @@
 // What a loaded sheet is answered with.
-use crate::held::wide;
+use ask_held::wide;
 use show::end;
 use show::mixed;
 use show::named;

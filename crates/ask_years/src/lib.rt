@@ -1,0 +1,176 @@
+// The questions of molads and years, each a call by its name and its numbers, answered with its fields in the C header's order.
+// Besides:
+//
+//     routes_differ 5762     1 if the two routes to New Year answer otherwise
+//     marks 5762             the cause of the year's delay, its kind, and the kind of the year before
+//     months_before 5762     a step of `molad`
+//     rhodes_steps 5762      Rhodes' n, r, D; i' and f'; i and f; w; the delay and its cause
+//     delay 2 17 39 0 1      the delay and its cause, by the molad's weekday, hour and part, and whether the year and the one before
+//                            it are leap
+use asking::Answer;
+use asking::FIELDS;
+use asking::Numbers;
+use asking::fields;
+use asking::no_answer;
+
+fn new_year(y: newyear::NewYearAnswer) -> Answer {
+    let molad = [y.molad_day, y.molad_hour, y.molad_part];
+    fields(
+        &[
+            y.refusal,
+            y.day,
+            y.weekday,
+            molad[0],
+            molad[1],
+            molad[2],
+            y.delay,
+            y.cause,
+        ],
+    )
+}
+
+fn whole_year(year: u64) -> Answer {
+    let y = newyear::year(year);
+    fields(
+        &[
+            y.refusal,
+            y.new_year,
+            y.weekday,
+            y.length,
+            y.months,
+            y.delay,
+            y.cause,
+        ],
+    )
+}
+
+fn kind(year: u64) -> Answer {
+    let k = newyear::kind(year);
+    fields(&[k.refusal, k.kind, k.weekday, k.length])
+}
+
+fn molad(year: u64, month: u64) -> Answer {
+    let m = molad::molad(year, month);
+    fields(&[m.refusal, m.day, m.hour, m.part])
+}
+
+fn notice(year: u64, month: u64) -> Answer {
+    let n = notice::notice(year, month);
+    fields(&[n.refusal, n.day, n.weekday, n.hour, n.minute, n.part])
+}
+
+fn routes_differ(year: u64) -> Answer {
+    let counted = new_year(newyear::new_year(year));
+    let rhodes = new_year(rhodes::new_year_rhodes(year));
+    fields(&[laws::pick(differ(counted, rhodes), 1, 0)])
+}
+
+fn differ(one: Answer, other: Answer) -> bool {
+    let a = one.of;
+    let b = other.of;
+    let mut i = 0;
+    while i < FIELDS {
+        if a[i] != b[i] {
+            return true;
+        }
+        i += 1;
+    }
+    false
+}
+
+fn marks(year: u64) -> Answer {
+    let before = newyear::kind(std::num::wrapping_sub_u64(year, 1));
+    fields(
+        &[
+            newyear::new_year(year).cause,
+            newyear::kind(year).kind,
+            before.kind,
+        ],
+    )
+}
+
+// The steps take a range, and what lies outside it is not understood.
+fn months_before(year: u64) -> Answer {
+    if year < 1 {
+        return no_answer();
+    }
+    if 10_001 < year {
+        return no_answer();
+    }
+    fields(&[molad::months_before(year).months])
+}
+
+fn rhodes_steps(year: u64) -> Answer {
+    if year < 1 {
+        return no_answer();
+    }
+    if 10_000 < year {
+        return no_answer();
+    }
+    let r = rhodes::route_of(year);
+    let molad = [
+        r.place,
+        r.since_leap,
+        r.distance,
+        r.molad_august,
+        r.molad_part,
+    ];
+    fields(
+        &[
+            molad[0],
+            molad[1],
+            molad[2],
+            molad[3],
+            molad[4],
+            r.august,
+            r.part,
+            r.weekday,
+            r.delay,
+            r.cause,
+        ],
+    )
+}
+
+fn delay(weekday: u64, hour: u64, part: u64, leap: bool, after_leap: bool) -> Answer {
+    if weekday < 1 {
+        return no_answer();
+    }
+    if 7 < weekday {
+        return no_answer();
+    }
+    if 23 < hour {
+        return no_answer();
+    }
+    if 1079 < part {
+        return no_answer();
+    }
+    let late = delays::delay(weekday, 1080 * hour + part, leap, after_leap);
+    fields(&[late.delay, late.cause])
+}
+
+// A call of one number, by its place among `new_year`, `new_year_rhodes`, `year`, `kind`, `routes_differ`, `marks`,
+// `months_before` and `rhodes_steps`.
+pub fn of_year(place: u64, year: u64) -> Answer {
+    match place {
+        0 => new_year(newyear::new_year(year)),
+        1 => new_year(rhodes::new_year_rhodes(year)),
+        2 => whole_year(year),
+        3 => kind(year),
+        4 => routes_differ(year),
+        5 => marks(year),
+        6 => months_before(year),
+        7 => rhodes_steps(year),
+        _ => no_answer(),
+    }
+}
+
+// A call of more numbers.
+pub fn answer(name: &[u8], numbers: Numbers) -> Answer {
+    let n = numbers.of;
+    match asking::asked(b"molad notice delay", b"225", name, numbers) {
+        0 => molad(n[0], n[1]),
+        1 => notice(n[0], n[1]),
+        2 => delay(n[0], n[1], n[2], n[3] == 1, n[4] == 1),
+        _ => no_answer(),
+    }
+}
