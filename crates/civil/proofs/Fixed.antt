@@ -28,6 +28,8 @@ words-fixed =
     let in-0 : dayOf gregorian 4000 2 29 ≡ 1721119 = omega (arith, gregorian-day 4000 2 29 (omega arith)) in
     let in-2000 : dayOf gregorian 6000 2 29 ≡ 2451604 = omega (arith, gregorian-day 6000 2 29 (omega arith)) in
     let in-1582 : dayOf gregorian 5582 10 15 ≡ 2299161 = omega (arith, gregorian-day 5582 10 15 (omega arith)) in
+    let new-year : dayOf gregorian 6001 1 1 ≡ 2451911 = omega (arith, gregorian-day 6001 1 1 (omega arith)) in
+    let years-eve : dayOf gregorian 6001 12 31 ≡ 2452275 = omega (arith, gregorian-day 6001 12 31 (omega arith)) in
     record {
       common-year = refl;
       leap-year = refl;
@@ -46,6 +48,12 @@ words-fixed =
         in-gregorian (pos 0) 2 29 1721119 (rw in-0),
         in-gregorian (pos 2000) 2 29 2451604 (rw in-2000),
         in-gregorian (pos 1582) 10 15 2299161 (rw in-1582),
+      );
+      year-ends = (
+        in-julian (pos 2001) 1 1 2451924 (rw (julian-day 5761 1 1)),
+        in-julian (pos 2001) 12 31 2452288 (rw (julian-day 5761 12 31)),
+        in-gregorian (pos 2001) 1 1 2451911 (rw new-year),
+        in-gregorian (pos 2001) 12 31 2452275 (rw years-eve),
       );
       no-year = (refl, refl, refl, refl);
       no-month = (refl, refl, refl, refl);

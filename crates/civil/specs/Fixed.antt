@@ -49,6 +49,10 @@ pub record WordsFixed : Type 0 where
       × BothWays gregorian (pos 0) 2 29 1721119
       × BothWays gregorian (pos 2000) 2 29 2451604
       × BothWays gregorian (pos 1582) 10 15 2299161
+  -- 1 January and 31 December.
+  pub year-ends :
+      BothWays julian (pos 2001) 1 1 2451924 × BothWays julian (pos 2001) 12 31 2452288
+      × BothWays gregorian (pos 2001) 1 1 2451911 × BothWays gregorian (pos 2001) 12 31 2452275
   -- Refused: the year, the month, the day of the month, and the day number.
   pub no-year :
       DateRefused julian (negsuc 3760) 10 7 5 × DateRefused julian (pos 6240) 1 1 5
