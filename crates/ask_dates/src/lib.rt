@@ -1,5 +1,5 @@
-// The questions of days, dates and stretches, each a call by its name and its numbers, answered with its fields in the C header's
-// order. Besides:
+// The questions of days, dates and stretches, each a call by its name and its numbers, answered with its fields in the C
+// header's order. Besides:
 //
 //     shown_date 347997      the date that the notice program shows
 //     comes_back 347998      1 if the day comes back from its Hebrew date

@@ -24,7 +24,6 @@ fn fill(out: &mut [u64]) {
     }
 }
 
-// Answers with the count of entries: a stretch takes two.
 fn list(of_stretches: bool, wing: u64, year: u64, out: &mut [u64]) -> rest::ListAnswer {
     if of_stretches {
         stretches::stretches(wing, year, out)
@@ -66,6 +65,7 @@ fn print_list(of_stretches: bool, wing: u64, year: u64, room: u64) -> bool {
     let out = &mut all[..room as usize];
     fill(out);
     let answer = list(of_stretches, wing, year, out);
+    // A stretch takes two entries.
     let twice = laws::pick(of_stretches, answer.count, 0);
     let listed = std::num::wrapping_add_u64(answer.count, twice);
     show::plain(answer.refusal);

@@ -1,12 +1,12 @@
-// The questions of molads and years, each a call by its name and its numbers, answered with its fields in the C header's order.
-// Besides:
+// The questions of molads and years, each a call by its name and its numbers, answered with its fields in the C header's
+// order. Besides:
 //
 //     routes_differ 5762     1 if the two routes to New Year answer otherwise
 //     marks 5762             the cause of the year's delay, its kind, and the kind of the year before
 //     months_before 5762     a step of `molad`
 //     rhodes_steps 5762      Rhodes' n, r, D; i' and f'; i and f; w; the delay and its cause
-//     delay 2 17 39 0 1      the delay and its cause, by the molad's weekday, hour and part, and whether the year and the one before
-//                            it are leap
+//     delay 2 17 39 0 1      the delay and its cause, by the molad's weekday, hour and part, and whether the year and the one
+//                            before it are leap
 use asking::Answer;
 use asking::FIELDS;
 use asking::Numbers;
