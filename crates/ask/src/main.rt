@@ -5,7 +5,7 @@
 // ask_sheets and ask_pages.
 use ask_held::Held;
 use ask_held::ROOM;
-use line::LINE_END;
+use line_code::LINE_END;
 
 const HASH: u8 = 35;
 

@@ -36,7 +36,7 @@ pub fn print_cuts(wing: u64, sheet: &[u8]) -> bool {
     while n < sheet.len() {
         counted(
             &mut counts,
-            accepted::sheet_refusal(wing, sheet_of(sheet, n)),
+            accepted_code::sheet_refusal(wing, sheet_of(sheet, n)),
         );
         n += 1;
     }
@@ -66,7 +66,7 @@ fn change(
         turn(space, at, apart as u8);
         counted(
             counts,
-            loaded::rows_place(wing, sheet_of(space, length), year).refusal,
+            loaded_code::rows_place(wing, sheet_of(space, length), year).refusal,
         );
         turned += apart;
     }

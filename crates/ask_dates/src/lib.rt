@@ -16,7 +16,7 @@ fn civil_date(date: civil::CivilDate) -> Answer {
 }
 
 fn hebrew_date(day: u64) -> Answer {
-    let d = hebrew::day_to_hebrew(day);
+    let d = hebrew_code::day_to_hebrew(day);
     fields(
         &[
             d.refusal,
@@ -31,13 +31,13 @@ fn hebrew_date(day: u64) -> Answer {
 }
 
 fn stretch(wing: u64, day: u64) -> Answer {
-    let s = stretch::stretch(wing, day);
+    let s = stretch_code::stretch(wing, day);
     fields(&[s.refusal, s.first, s.length, bits(s.days_left)])
 }
 
 fn comes_back(day: u64) -> Answer {
-    let date = hebrew::day_to_hebrew(day);
-    let back = hebrew::hebrew_to_day(date.year, date.month, date.day);
+    let date = hebrew_code::day_to_hebrew(day);
+    let back = hebrew_code::hebrew_to_day(date.year, date.month, date.day);
     let good = (date.refusal == 0) & ((back.refusal == 0) & (back.day == day));
     fields(&[laws::pick(good, 1, 0)])
 }
@@ -48,7 +48,7 @@ fn weekday(day: u64) -> Answer {
 }
 
 fn year_of_day(day: u64) -> Answer {
-    let y = newyear::year_of_day(day);
+    let y = newyear_code::year_of_day(day);
     fields(&[y.refusal, y.year])
 }
 
@@ -57,9 +57,9 @@ fn year_of_day(day: u64) -> Answer {
 pub fn of_day(place: u64, day: u64) -> Answer {
     match place {
         0 => weekday(day),
-        1 => civil_date(civil::day_to_julian(day)),
-        2 => civil_date(civil::day_to_gregorian(day)),
-        3 => civil_date(wording::shown_date(day)),
+        1 => civil_date(civil_code::day_to_julian(day)),
+        2 => civil_date(civil_code::day_to_gregorian(day)),
+        3 => civil_date(wording_code::shown_date(day)),
         4 => hebrew_date(day),
         5 => year_of_day(day),
         6 => comes_back(day),
@@ -70,7 +70,7 @@ pub fn of_day(place: u64, day: u64) -> Answer {
 }
 
 fn month_length(year: u64, month: u64) -> Answer {
-    let m = hebrew::month_length(year, month);
+    let m = hebrew_code::month_length(year, month);
     fields(&[m.refusal, m.days])
 }
 
@@ -85,14 +85,14 @@ fn of_civil_date(name: &[u8], numbers: Numbers) -> Answer {
         return no_answer();
     }
     match place(b"julian_to_day gregorian_to_day", name) {
-        0 => civil_day(civil::julian_to_day(year.number, n[1], n[2])),
-        1 => civil_day(civil::gregorian_to_day(year.number, n[1], n[2])),
+        0 => civil_day(civil_code::julian_to_day(year.number, n[1], n[2])),
+        1 => civil_day(civil_code::gregorian_to_day(year.number, n[1], n[2])),
         _ => no_answer(),
     }
 }
 
 fn hebrew_day(year: u64, month: u64, day: u64) -> Answer {
-    let d = hebrew::hebrew_to_day(year, month, day);
+    let d = hebrew_code::hebrew_to_day(year, month, day);
     fields(&[d.refusal, d.day])
 }
 

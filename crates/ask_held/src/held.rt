@@ -101,7 +101,7 @@ fn written(wing: u64, first_year: u64, years: u64, room: usize, space: &mut [u8]
 {
     let out = &mut space[..room];
     fill(out);
-    let answer = sheet::sheet_write(wing, first_year, years, out);
+    let answer = sheet_code::sheet_write(wing, first_year, years, out);
     let bytes = laws::pick(answer.refusal == 0, answer.count, 0);
     plain(answer.refusal);
     number(answer.count);

@@ -26,9 +26,9 @@ fn fill(out: &mut [u64]) {
 
 fn list(of_stretches: bool, wing: u64, year: u64, out: &mut [u64]) -> rest::ListAnswer {
     if of_stretches {
-        stretches::stretches(wing, year, out)
+        stretches_code::stretches(wing, year, out)
     } else {
-        rest::rest_days(wing, year, out)
+        rest_code::rest_days(wing, year, out)
     }
 }
 

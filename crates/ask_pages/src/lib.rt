@@ -73,13 +73,13 @@ fn print_pair(refusal: u64, number: u64) {
 }
 
 fn print_number(input: &[u8]) {
-    let answer = line::number_on_line(input);
+    let answer = line_code::number_on_line(input);
     print_pair(answer.refusal, answer.number);
 }
 
 fn print_sheet(input: &[u8]) {
     let mut space = [0u8; 400];
-    let answer = filing::sheet_on_lines(input, &mut space);
+    let answer = filing_code::sheet_on_lines(input, &mut space);
     print_pair(answer.refusal, answer.count);
 }
 
@@ -88,7 +88,7 @@ fn print(page: u64, space: &[u8; ROOM], length: usize) {
     match page {
         0 => print_number(input),
         1 => listing::print(input),
-        2 => wording::print(input),
+        2 => wording_code::print(input),
         _ => print_sheet(input),
     }
 }

@@ -25,15 +25,15 @@ fn print_place(place: loaded::RowsAnswer, refusal: u64, part: &[u8]) -> bool {
 
 pub fn print_rows(wing: u64, sheet: &[u8], year: u64) -> bool {
     let mut refusal = 0;
-    let part = loaded::sheet_rows(wing, sheet, year, &mut refusal);
-    print_place(loaded::rows_place(wing, sheet, year), refusal, part)
+    let part = loaded_code::sheet_rows(wing, sheet, year, &mut refusal);
+    print_place(loaded_code::rows_place(wing, sheet, year), refusal, part)
 }
 
 pub fn print_rows_of_two<'a>(number: u64, sheet_1: &'a [u8], sheet_2: &'a [u8], year: u64) -> bool {
     let mut refusal = 0;
-    let part = loaded::sheets_rows(number, sheet_1, sheet_2, year, &mut refusal);
+    let part = loaded_code::sheets_rows(number, sheet_1, sheet_2, year, &mut refusal);
     print_place(
-        loaded::sheets_place(number, sheet_1, sheet_2, year),
+        loaded_code::sheets_place(number, sheet_1, sheet_2, year),
         refusal,
         part,
     )
@@ -58,7 +58,7 @@ fn walk(sheet: &[u8], begun: u64, calls: u64, printed: bool) -> u64 {
     let mut row = begun;
     let mut i = 0;
     while i < calls {
-        let step = loaded::step_at(sheet, row);
+        let step = loaded_code::step_at(sheet, row);
         sum = with_row(sum, step.row);
         if printed {
             print_row(step.row);
@@ -71,7 +71,7 @@ fn walk(sheet: &[u8], begun: u64, calls: u64, printed: bool) -> u64 {
 
 // Too many calls are not understood: no sheet has so many rows.
 pub fn print_walk(wing: u64, sheet: &[u8], calls: u64) -> bool {
-    let begun = loaded::first_row(wing, sheet);
+    let begun = loaded_code::first_row(wing, sheet);
     if calls <= 10_000 {
         named(b"walk", begun.refusal);
         end();
@@ -82,7 +82,7 @@ pub fn print_walk(wing: u64, sheet: &[u8], calls: u64) -> bool {
 
 pub fn print_walk_sum(wing: u64, sheet: &[u8], calls: u64) -> bool {
     if calls <= 10_000 {
-        plain(walk(sheet, loaded::first_row(wing, sheet).row, calls, false));
+        plain(walk(sheet, loaded_code::first_row(wing, sheet).row, calls, false));
         end();
     }
     calls <= 10_000
@@ -93,9 +93,9 @@ fn with_part(before: u64, part: &[u8]) -> u64 {
     let mut sum = before;
     let mut at = 0;
     while 6 <= part.len() - at {
-        sum = mixed(sum, layout::four_at(part, at));
-        sum = mixed(sum, layout::one_at(part, at + 4));
-        sum = mixed(sum, layout::one_at(part, at + 5));
+        sum = mixed(sum, layout_code::four_at(part, at));
+        sum = mixed(sum, layout_code::one_at(part, at + 4));
+        sum = mixed(sum, layout_code::one_at(part, at + 5));
         at += 6;
     }
     sum
@@ -111,7 +111,10 @@ pub fn print_rows_sum(wing: u64, sheet: &[u8], first: u64, last: u64) -> bool {
     let mut i = 0;
     while i <= after {
         let year = std::num::wrapping_add_u64(first, i);
-        sum = with_part(sum, loaded::sheet_rows(wing, sheet, year, &mut refusal));
+        sum = with_part(
+            sum,
+            loaded_code::sheet_rows(wing, sheet, year, &mut refusal),
+        );
         i += 1;
     }
     plain(sum);

@@ -30,7 +30,7 @@ fn new_year(y: newyear::NewYearAnswer) -> Answer {
 }
 
 fn whole_year(year: u64) -> Answer {
-    let y = newyear::year(year);
+    let y = newyear_code::year(year);
     fields(
         &[
             y.refusal,
@@ -45,23 +45,23 @@ fn whole_year(year: u64) -> Answer {
 }
 
 fn kind(year: u64) -> Answer {
-    let k = newyear::kind(year);
+    let k = newyear_code::kind(year);
     fields(&[k.refusal, k.kind, k.weekday, k.length])
 }
 
 fn molad(year: u64, month: u64) -> Answer {
-    let m = molad::molad(year, month);
+    let m = molad_code::molad(year, month);
     fields(&[m.refusal, m.day, m.hour, m.part])
 }
 
 fn notice(year: u64, month: u64) -> Answer {
-    let n = notice::notice(year, month);
+    let n = notice_code::notice(year, month);
     fields(&[n.refusal, n.day, n.weekday, n.hour, n.minute, n.part])
 }
 
 fn routes_differ(year: u64) -> Answer {
-    let counted = new_year(newyear::new_year(year));
-    let rhodes = new_year(rhodes::new_year_rhodes(year));
+    let counted = new_year(newyear_code::new_year(year));
+    let rhodes = new_year(rhodes_code::new_year_rhodes(year));
     fields(&[laws::pick(differ(counted, rhodes), 1, 0)])
 }
 
@@ -79,11 +79,11 @@ fn differ(one: Answer, other: Answer) -> bool {
 }
 
 fn marks(year: u64) -> Answer {
-    let before = newyear::kind(std::num::wrapping_sub_u64(year, 1));
+    let before = newyear_code::kind(std::num::wrapping_sub_u64(year, 1));
     fields(
         &[
-            newyear::new_year(year).cause,
-            newyear::kind(year).kind,
+            newyear_code::new_year(year).cause,
+            newyear_code::kind(year).kind,
             before.kind,
         ],
     )
@@ -97,7 +97,7 @@ fn months_before(year: u64) -> Answer {
     if 10_001 < year {
         return no_answer();
     }
-    fields(&[molad::months_before(year).months])
+    fields(&[molad_code::months_before(year).months])
 }
 
 fn rhodes_steps(year: u64) -> Answer {
@@ -107,7 +107,7 @@ fn rhodes_steps(year: u64) -> Answer {
     if 10_000 < year {
         return no_answer();
     }
-    let r = rhodes::route_of(year);
+    let r = rhodes_code::route_of(year);
     let molad = [
         r.place,
         r.since_leap,
@@ -144,7 +144,7 @@ fn delay(weekday: u64, hour: u64, part: u64, leap: bool, after_leap: bool) -> An
     if 1079 < part {
         return no_answer();
     }
-    let late = delays::delay(weekday, 1080 * hour + part, leap, after_leap);
+    let late = delays_code::delay(weekday, 1080 * hour + part, leap, after_leap);
     fields(&[late.delay, late.cause])
 }
 
@@ -152,8 +152,8 @@ fn delay(weekday: u64, hour: u64, part: u64, leap: bool, after_leap: bool) -> An
 // `months_before` and `rhodes_steps`.
 pub fn of_year(place: u64, year: u64) -> Answer {
     match place {
-        0 => new_year(newyear::new_year(year)),
-        1 => new_year(rhodes::new_year_rhodes(year)),
+        0 => new_year(newyear_code::new_year(year)),
+        1 => new_year(rhodes_code::new_year_rhodes(year)),
         2 => whole_year(year),
         3 => kind(year),
         4 => routes_differ(year),

@@ -1,15 +1,11 @@
 pub mod Raising
 pub mod Divisible
 pub mod MonthStarts
-pub mod MonthOf
 pub mod Years
 pub mod Centuries
-pub mod Quarters
-pub mod MarchYears
 pub mod Dates
 pub mod JulianYears
 pub mod GregorianYears
-pub mod Steps
 pub mod Answers
 pub mod RoundTrips
 pub mod Theorems

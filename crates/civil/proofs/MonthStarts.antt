@@ -11,7 +11,7 @@ use lib.Dec.{leb}
 use Rattle.laws.specs.Runs.{every}
 use Rattle.laws.proofs.Tests.{at}
 use Rattle.civil.specs.Calendar.{monthDays, daysBefore, yearDays}
-use Rattle.civil.specs.Steps.{IsMonthDay}
+use Rattle.civil.specs.Good.{IsMonthDay}
 
 pub january : (leap : Bool) → daysBefore leap 1 ≡ 0
 unfolding daysBefore monthDays

@@ -1,7 +1,8 @@
 -- Good civil dates, and what "exactly one date" says. Years are raised years.
 use mathlib.Core.Path.{_≡_}
-use Prim.Native.Nat.{ℕ, _≤_}
-use Rattle.civil.specs.Calendar.{Calendar, monthDays, firstRaised, lastRaised, dayOf}
+use mathlib.Core.Bool.{Bool}
+use Prim.Native.Nat.{ℕ, _+_, _≤_}
+use Rattle.civil.specs.Calendar.{Calendar, monthDays, daysBefore, firstRaised, lastRaised, dayOf}
 use Rattle.civil.specs.Date.{Date, dateOf}
 
 -- The day number of a date.
@@ -24,3 +25,11 @@ pub record OneDate (cal : Calendar) (j : ℕ) : Type 0 where
   pub last : dateOf cal j .year ≤ lastRaised
   pub counted : day cal (dateOf cal j) ≡ j
   pub only : (x : Date) → GoodCivilDate cal x → day cal x ≡ j → x ≡ dateOf cal j
+
+-- Day y of a year, from 0, is day d of month m.
+pub record IsMonthDay (leap : Bool) (y m d : ℕ) : Type 0 where
+  pub first-month : 1 ≤ m
+  pub last-month : m ≤ 12
+  pub first-day : 1 ≤ d
+  pub last-day : d ≤ monthDays leap m
+  pub place : daysBefore leap m + d ≡ y + 1

@@ -4,5 +4,4 @@ pub mod Date
 pub mod Good
 pub mod Answers
 pub mod Promises
-pub mod Steps
 pub mod Fixed

@@ -1,4 +1,3 @@
 pub mod Delays
-pub mod Steps
 pub mod Promises
 pub mod Fixed

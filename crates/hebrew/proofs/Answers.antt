@@ -1,6 +1,7 @@
 -- What `month_length`, `hebrew_to_day` and `day_to_hebrew` promise; and that each contract leaves one answer, and each
 -- step one result.
 use mathlib.Core.Path.{_≡_, refl}
+use mathlib.Core.Bool.{Bool}
 use mathlib.Core.List.{[], _∷_}
 use Prim.Native.Nat.{ℕ, _+_, _-_, _≤_}
 use native.Mathlib.Omega.{arith}
@@ -9,7 +10,7 @@ use Rattle.laws.proofs.One.{one-result}
 use Rattle.laws.proofs.Promises.{ranged, asks, answered, smallest}
 use Rattle.days.specs.Range.{firstDay, lastDay, InRange}
 use Rattle.molad.specs.Years.{lastYear, InYears, leap}
-use Rattle.molad.specs.Molad.{IsMonth}
+use Rattle.molad.specs.Molad.{IsMonth, noMonth}
 use Rattle.molad.proofs.Answers.{months-caught}
 use Rattle.newyear.specs.NewYear.{newYear, yearLength}
 use Rattle.hebrew.specs.Months.{monthLength, daysBefore}
@@ -19,7 +20,7 @@ use Rattle.hebrew.specs.Answers.{noDay, noDate, monthAnswer, hebrewDay, 
 use Rattle.hebrew.specs.declared.MonthAnswer.{MonthAnswer}
 use Rattle.hebrew.specs.declared.HebrewDay.{HebrewDay}
 use Rattle.hebrew.specs.declared.HebrewDate.{HebrewDate}
-use Rattle.hebrew.specs.declared.date.YearDate.{YearDate}
+use Rattle.hebrew.specs.declared.YearDate.{YearDate}
 use Rattle.hebrew.proofs.Dates.{date-good, date-day}
 
 pub month-length-promised :
@@ -84,3 +85,9 @@ next-date-one len date = one-result (tomorrow len date)
 
 pub days-before-one : (len code r s : ℕ) → r ≡ daysBefore len code → s ≡ daysBefore len code → r ≡ s
 days-before-one len code = one-result (daysBefore len code)
+
+pub days-in-one : (len code r s : ℕ) → r ≡ monthLength len code → s ≡ monthLength len code → r ≡ s
+days-in-one len code = one-result (monthLength len code)
+
+pub no-month-one : (isLeap : Bool) (code : ℕ) (r s : Bool) → r ≡ noMonth isLeap code → s ≡ noMonth isLeap code → r ≡ s
+no-month-one isLeap code = one-result (noMonth isLeap code)

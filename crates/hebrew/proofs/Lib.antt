@@ -3,6 +3,5 @@ pub mod Dates
 pub mod Placed
 pub mod RoundTrip
 pub mod Weekdays
-pub mod Spanned
 pub mod Walked
 pub mod Fixed

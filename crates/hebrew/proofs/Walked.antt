@@ -15,7 +15,7 @@ use Rattle.newyear.specs.Kinds.{lengths, IsLength}
 use Rattle.hebrew.specs.Months.{monthLength, daysBefore}
 use Rattle.hebrew.specs.Dates.{monthOf}
 use Rattle.hebrew.specs.Steps.{yearDate, tomorrow}
-use Rattle.hebrew.specs.declared.date.YearDate.{YearDate}
+use Rattle.hebrew.specs.declared.YearDate.{YearDate}
 use Rattle.hebrew.proofs.Placed.{monthFrom, month-from, month-is, months-whole, sums-row, sums-rise}
 
 -- No month comes after Elul.

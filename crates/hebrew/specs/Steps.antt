@@ -5,7 +5,7 @@ use Prim.Native.Nat.{ℕ, _+_, _-_}
 use lib.Dec.{eqb, leb, ltb}
 use Rattle.hebrew.specs.Months.{monthLength, daysBefore}
 use Rattle.hebrew.specs.Dates.{monthOf}
-use Rattle.hebrew.specs.declared.date.YearDate.{YearDate}
+use Rattle.hebrew.specs.declared.YearDate.{YearDate}
 
 -- The date so many days after New Year. Past the year's last day it is counted on in Elul.
 unfoldable pub yearDate : ℕ → ℕ → YearDate

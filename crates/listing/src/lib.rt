@@ -10,7 +10,7 @@ use show::plain;
 use show::refused;
 
 fn head(year: u64, facts: newyear::YearAnswer) {
-    let tishri = molad::molad(year, 1);
+    let tishri = molad_code::molad(year, 1);
     plain(year);
     number(facts.weekday);
     number(facts.length);
@@ -24,8 +24,8 @@ fn head(year: u64, facts: newyear::YearAnswer) {
 }
 
 fn row(day: u64) {
-    let found = hebrew::day_to_hebrew(day);
-    let daylight = civil::day_to_gregorian(day);
+    let found = hebrew_code::day_to_hebrew(day);
+    let daylight = civil_code::day_to_gregorian(day);
     plain(found.month);
     number(found.day);
     number(days::weekday(day).weekday);
@@ -43,20 +43,20 @@ fn rows(days: &[u64]) {
 }
 
 fn year(year: u64) {
-    let facts = newyear::year(year);
+    let facts = newyear_code::year(year);
     if facts.refusal != 0 {
         refused(facts.refusal);
         return;
     }
     head(year, facts);
-    let mut days = [0u64; rest::REST_ROWS];
-    rest::rest_days(1, year, &mut days);
+    let mut days = [0u64; rest_code::REST_ROWS];
+    rest_code::rest_days(1, year, &mut days);
     rows(&days);
 }
 
 // The listing of the year on the input's first line, or its refusal.
 pub fn print(input: &[u8]) {
-    let asked = line::number_on_line(input);
+    let asked = line_code::number_on_line(input);
     if asked.refusal != 0 {
         refused(asked.refusal);
     } else {

@@ -7,19 +7,17 @@ use Prim.Native.Nat.{ℕ, _+_, _*_, _-_, _≤_}
 use native.Mathlib.Omega.{arith}
 use native.Mathlib.Decide.{ℕ-discrete}
 use lib.ListN.{length}
-use denote.Ref.{RefT}
 use Rattle.laws.proofs.One.{one-result}
 use Rattle.laws.proofs.Promises.{ranged, asks, answered}
 use Rattle.sheet.specs.Promises.{offsetTold, rowsTold}
 use Rattle.accepted.specs.Check.{yearsTold, firstTold, loadedRefusal}
 use Rattle.loaded.specs.Rows.{noRows, offSheet, rowsAnswer, rowsOf, namedSheet, namedAnswer}
 use Rattle.loaded.specs.Promises.{EmptyPart, PromisedRows, PromisedNamed}
-use Rattle.loaded.specs.Walk.{rowGiven, stepAt, begunAt, begunOn, movedOn}
-use Rattle.loaded.specs.declared.years.RowsAnswer.{RowsAnswer}
-use Rattle.loaded.specs.declared.walk.Row.{Row}
-use Rattle.loaded.specs.declared.walk.Begun.{Begun}
-use Rattle.loaded.specs.declared.walk.Stepped.{Stepped}
-use Rattle.loaded.specs.declared.walk.Walker.{Walker}
+use Rattle.loaded.specs.Walk.{rowGiven, stepAt, begunAt}
+use Rattle.loaded.specs.declared.RowsAnswer.{RowsAnswer}
+use Rattle.loaded.specs.declared.Row.{Row}
+use Rattle.loaded.specs.declared.Begun.{Begun}
+use Rattle.loaded.specs.declared.Stepped.{Stepped}
 use Rattle.accepted.proofs.Accepted.{where-accepted, where-refused, loaded-promised, rows-inside}
 
 module _ (wing : ℕ) (bytes : List ℕ) (year : ℕ) where
@@ -90,10 +88,3 @@ module _ (bytes : List ℕ) where
   -- The bytes of a part.
   pub part-one : (place : RowsAnswer) (r s : List ℕ) → r ≡ rowsOf bytes place → s ≡ rowsOf bytes place → r ≡ s
   part-one place = one-result (rowsOf bytes place)
-
--- One walker that is begun, and one that has moved on.
-pub begin-one : (wing : ℕ) (sheet : RefT (List ℕ)) (r s : Walker) → r ≡ begunOn wing sheet → s ≡ begunOn wing sheet → r ≡ s
-begin-one wing sheet = one-result (begunOn wing sheet)
-
-pub moved-one : (walker r s : Walker) → r ≡ movedOn walker → s ≡ movedOn walker → r ≡ s
-moved-one walker = one-result (movedOn walker)

@@ -9,11 +9,10 @@ use native.Mathlib.Decide.{ℕ-discrete}
 use borrow.Author.Tests.{ltb-true, lt-ltb, le-ltb}
 use lib.Dec.{ltb}
 use lib.ListN.{length}
-use denote.Ref.{RefT, now}
 use Rattle.laws.proofs.Tests.{and-left, and-right}
 use Rattle.accepted.specs.Check.{countTold, loadedRefusal}
-use Rattle.loaded.specs.Walk.{rowPlace, hasRow, rowRead, rowGiven, rowAfter, endedRow, begunAt, begunOn}
-use Rattle.loaded.specs.Promises.{RowThere, NoMore, StepOf, rowAfterCalls, handedOut, afterCalls, WalkOf}
+use Rattle.loaded.specs.Walk.{rowPlace, hasRow, rowRead, rowGiven, rowAfter, endedRow, begunAt}
+use Rattle.loaded.specs.Promises.{RowThere, NoMore, StepOf, rowAfterCalls, handedOut, WalkOf}
 use Rattle.accepted.proofs.Accepted.{where-accepted, where-refused, accepted}
 
 module _ (bytes : List ℕ) (k : ℕ) where
@@ -124,11 +123,3 @@ module _ (wing : ℕ) (bytes : List ℕ) where
         no-more = none-left;
         ended = λ u l n. let w : ¬ RowThere bytes endedRow = λ t. omega (arith, t .1) in rw (refused-begins u, stays bytes endedRow w n) (step-of bytes endedRow .none w .0);
       }
-
--- The walker that `begin` makes keeps its sheet, and is after each call at the row at which the walk is.
-pub walker-after :
-    (wing : ℕ) (sheet : RefT (List ℕ)) (n : ℕ) →
-    afterCalls (begunOn wing sheet) n ≡ record { sheet = sheet; row = rowAfterCalls (now sheet) (begunAt wing (now sheet) .row) n }
-unfolding afterCalls rowAfterCalls
-walker-after wing sheet zero = refl
-walker-after wing sheet (suc n) = rw (walker-after wing sheet n)

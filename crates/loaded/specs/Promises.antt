@@ -13,10 +13,9 @@ use Rattle.sheet.specs.Promises.{offsetTold, rowsTold}
 use Rattle.accepted.specs.Check.{loadedRefusal}
 use Rattle.accepted.specs.Promises.{askedOfLoaded}
 use Rattle.loaded.specs.Rows.{rowsAnswer, rowsOf, namedSheet}
-use Rattle.loaded.specs.Walk.{rowGiven, rowAfter, begunAt, movedOn}
-use Rattle.loaded.specs.declared.years.RowsAnswer.{RowsAnswer}
-use Rattle.loaded.specs.declared.walk.Row.{Row}
-use Rattle.loaded.specs.declared.walk.Walker.{Walker}
+use Rattle.loaded.specs.Walk.{rowGiven, rowAfter, begunAt}
+use Rattle.loaded.specs.declared.RowsAnswer.{RowsAnswer}
+use Rattle.loaded.specs.declared.Row.{Row}
 
 -- A year's rows: from the byte on that its index entry tells, 6 for each of its rows, all within the sheet.
 abbrev pub OnSheet : List ℕ → ℕ → Type 0
@@ -65,11 +64,6 @@ rowAfterCalls bytes k (suc n) = rowAfter bytes (rowAfterCalls bytes k n)
 
 abbrev pub handedOut : List ℕ → ℕ → ℕ → Row
 handedOut bytes k n = rowGiven bytes (rowAfterCalls bytes k n)
-
--- The walker itself after n calls.
-unfoldable pub afterCalls : Walker → ℕ → Walker
-afterCalls walker zero = walker
-afterCalls walker (suc n) = movedOn (afterCalls walker n)
 
 -- A walk of a wing's sheet from where it begins: each row that the header counts, in turn, then no more for ever. Begun on
 -- bytes that are refused it has ended already, if they are no more than memory can hold.

@@ -7,7 +7,7 @@ use lib.ListN.{take, drop}
 use Rattle.laws.specs.Runs.{outside}
 use Rattle.sheet.specs.Promises.{offsetTold, rowsTold}
 use Rattle.accepted.specs.Check.{yearsTold, firstTold, ofLoaded}
-use Rattle.loaded.specs.declared.years.RowsAnswer.{RowsAnswer}
+use Rattle.loaded.specs.declared.RowsAnswer.{RowsAnswer}
 
 abbrev pub noRows : ℕ → RowsAnswer
 noRows n = record { refusal = n; offset = 0; length = 0 }

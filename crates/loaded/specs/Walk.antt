@@ -4,14 +4,12 @@ use mathlib.Core.List.{List}
 use Prim.Native.Nat.{ℕ, _+_, _*_}
 use lib.Dec.{ltb}
 use lib.ListN.{length}
-use denote.Ref.{RefT, now}
 use Rattle.layout.specs.Layout.{rowsOffset}
 use Rattle.layout.specs.Reading.{numberAt}
 use Rattle.accepted.specs.Check.{yearsTold, countTold, ofLoaded}
-use Rattle.loaded.specs.declared.walk.Row.{Row}
-use Rattle.loaded.specs.declared.walk.Stepped.{Stepped}
-use Rattle.loaded.specs.declared.walk.Begun.{Begun}
-use Rattle.loaded.specs.declared.walk.Walker.{Walker}
+use Rattle.loaded.specs.declared.Row.{Row}
+use Rattle.loaded.specs.declared.Stepped.{Stepped}
+use Rattle.loaded.specs.declared.Begun.{Begun}
 
 -- Where row k stands, counted from 0.
 abbrev pub rowPlace : List ℕ → ℕ → ℕ
@@ -44,10 +42,3 @@ endedRow = 18446744073709551615
 
 unfoldable pub begunAt : ℕ → List ℕ → Begun
 begunAt wing bytes = ofLoaded wing bytes (λ n. record { refusal = n; row = endedRow }) (record { refusal = 0; row = 0 })
-
--- A walker keeps the lent sheet and its place.
-abbrev pub begunOn : ℕ → RefT (List ℕ) → Walker
-begunOn wing sheet = record { sheet = sheet; row = begunAt wing (now sheet) .row }
-
-abbrev pub movedOn : Walker → Walker
-movedOn w = record { sheet = w .sheet; row = rowAfter (now (w .sheet)) (w .row) }

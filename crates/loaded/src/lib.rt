@@ -2,18 +2,35 @@
 //
 // Nothing is taken out of bytes that are not accepted (`accepted`). What is answered is still inside the sheet: a part of the
 // lent bytes, not a copy.
-mod walk;
-mod years;
+//
+// Here stand the rules, in specs/, and what follows from them. The code, with the walker that keeps a lent sheet, is in
+// `loaded_code`.
 
-pub use walk::Begun;
-pub use walk::Row;
-pub use walk::Stepped;
-pub use walk::Walker;
-pub use walk::begin;
-pub use walk::first_row;
-pub use walk::step_at;
-pub use years::RowsAnswer;
-pub use years::rows_place;
-pub use years::sheet_rows;
-pub use years::sheets_place;
-pub use years::sheets_rows;
+// A row: the first day and the length of a stretch, and its wing. Where no row is left `more` is 0, as is all else; else 1.
+#[repr(C)]
+pub struct Row {
+    pub more: u64,
+    pub first: u64,
+    pub length: u64,
+    pub wing: u64,
+}
+
+// A row, and the number of the row after it.
+pub struct Stepped {
+    pub row: Row,
+    pub next: u64,
+}
+
+// Why no walk begins, or 0, and the number of its first row.
+pub struct Begun {
+    pub refusal: u64,
+    pub row: u64,
+}
+
+// Where a year's rows stand: from which byte of the sheet on, and how many bytes they are.
+#[repr(C)]
+pub struct RowsAnswer {
+    pub refusal: u64,
+    pub offset: u64,
+    pub length: u64,
+}

@@ -1,5 +1,5 @@
 -- What `molad` promises, and that its contract leaves one answer.
-use mathlib.Core.Path.{_≡_, refl, sym, _∙_}
+use mathlib.Core.Path.{_≡_, refl, sym}
 use mathlib.Core.Bool.{Bool, true, false, not, _&&_, and-false, false≢true}
 use Prim.Native.Nat.{ℕ}
 use native.Mathlib.Omega.{arith}
@@ -13,10 +13,7 @@ use Rattle.molad.specs.Years.{leap, lastYear}
 use Rattle.molad.specs.Molad.{IsMonth, noMonth, moladDay, moladTime}
 use Rattle.molad.specs.Answers.{noMolad, moladAnswer}
 use Rattle.molad.specs.Promises.{PromisedMolad}
-use Rattle.molad.specs.Steps.{IsMonths, IsMolad}
 use Rattle.molad.specs.declared.MoladAnswer.{MoladAnswer}
-use Rattle.molad.specs.declared.months.Months.{Months}
-use Rattle.molad.specs.declared.parts.Molad.{Molad}
 
 -- Code 6 in a common year is caught, and so a code that is no month of the year.
 adar-one : (isLeap : Bool) (code : ℕ) → Catches (eqb code 6 && not isLeap) (code ≡ 6 → isLeap ≡ true)
@@ -41,17 +38,6 @@ molad-promised h code =
 pub molad-smallest : (h code : ℕ) → Smallest (molad-promised h code)
 molad-smallest h code = smallest (molad-promised h code) (omega arith, (omega arith, tt))
 
--- One answer, and one result of each step.
+-- One answer.
 pub molad-one : (h code : ℕ) (r s : MoladAnswer) → r ≡ moladAnswer h code → s ≡ moladAnswer h code → r ≡ s
 molad-one h code = one-result (moladAnswer h code)
-
-pub months-before-one : (h : ℕ) (r s : Months) → IsMonths h r → IsMonths h s → r ≡ s
-months-before-one h r s p q =
-    λ i. record {
-      months = (p .0 ∙ sym (q .0)) i;
-      leap = (p .1 .0 ∙ sym (q .1 .0)) i;
-      «after_leap» = (p .1 .1 .0 ∙ sym (q .1 .1 .0)) i;
-    }
-
-pub molad-after-one : (months : ℕ) (r s : Molad) → IsMolad months r → IsMolad months s → r ≡ s
-molad-after-one months r s p q = λ i. record { day = (p .0 ∙ sym (q .0)) i; time = (p .1 .0 ∙ sym (q .1 .0)) i }

@@ -3,5 +3,4 @@ pub mod Years
 pub mod Molad
 pub mod Answers
 pub mod Promises
-pub mod Steps
 pub mod Fixed

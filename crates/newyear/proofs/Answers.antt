@@ -1,5 +1,5 @@
 -- What `new_year`, `year`, `kind` and `year_of_day` promise, and that each contract leaves one answer.
-use mathlib.Core.Path.{_≡_, refl, sym, _∙_}
+use mathlib.Core.Path.{_≡_, refl}
 use mathlib.Core.Bool.{cond}
 use mathlib.Core.List.{[], _∷_}
 use Prim.Native.Nat.{ℕ, _+_, _-_, _%_}
@@ -15,16 +15,14 @@ use Rattle.molad.specs.Molad.{moladDay, moladTime}
 use Rattle.delays.specs.declared.Delayed.{Delayed}
 use Rattle.delays.specs.Promises.{Explained}
 use Rattle.delays.proofs.Late.{explained}
-use Rattle.newyear.specs.NewYear.{delayIn, newYear, yearLength, yearOf, InYear}
+use Rattle.newyear.specs.NewYear.{delayIn, newYear, yearLength, InYear}
 use Rattle.newyear.specs.Kinds.{kinds, kindOf, kindNumber}
 use Rattle.newyear.specs.Answers.{noNewYear, newYearOn, newYearAnswer, yearAnswer, noKind, kindAnswer, yearOfDayAnswer}
 use Rattle.newyear.specs.Promises.{PromisedNewYear, PromisedKind}
-use Rattle.newyear.specs.Spans.{Spans}
 use Rattle.newyear.specs.declared.NewYearAnswer.{NewYearAnswer}
 use Rattle.newyear.specs.declared.YearAnswer.{YearAnswer}
-use Rattle.newyear.specs.declared.kinds.KindAnswer.{KindAnswer}
+use Rattle.newyear.specs.declared.KindAnswer.{KindAnswer}
 use Rattle.newyear.specs.declared.YearOfDayAnswer.{YearOfDayAnswer}
-use Rattle.newyear.specs.declared.span.Span.{Span}
 use Rattle.newyear.proofs.Lengths.{kind-in}
 use Rattle.newyear.proofs.YearOf.{held}
 
@@ -84,7 +82,7 @@ year-of-day-promised j =
     asks (record { refusal = 4; year = 0 }) (ranged firstDay lastDay j) (omega arith) refl refl (λ m.
     answered refl (held j (m .0) (m .1)))
 
--- One answer, and one result of each step.
+-- One answer.
 pub new-year-one : (h : ℕ) (r s : NewYearAnswer) → r ≡ newYearAnswer h → s ≡ newYearAnswer h → r ≡ s
 new-year-one h = one-result (newYearAnswer h)
 
@@ -96,14 +94,3 @@ kind-one h = one-result (kindAnswer h)
 
 pub year-of-day-one : (j : ℕ) (r s : YearOfDayAnswer) → r ≡ yearOfDayAnswer j → s ≡ yearOfDayAnswer j → r ≡ s
 year-of-day-one j = one-result (yearOfDayAnswer j)
-
-pub year-span-one : (h : ℕ) (r s : Span) → Spans h r → Spans h s → r ≡ s
-year-span-one h r s p q =
-    λ i. record {
-      year = (p .year ∙ sym (q .year)) i;
-      «new_year» = (p .begins ∙ sym (q .begins)) i;
-      length = (p .days ∙ sym (q .days)) i;
-    }
-
-pub year-holding-one : (j : ℕ) (r s : Span) → Spans (yearOf j) r → Spans (yearOf j) s → r ≡ s
-year-holding-one j = year-span-one (yearOf j)

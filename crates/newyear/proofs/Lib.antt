@@ -4,5 +4,4 @@ pub mod Rise
 pub mod YearOf
 pub mod Answers
 pub mod Fourteen
-pub mod Spanned
 pub mod Fixed

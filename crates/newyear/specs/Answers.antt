@@ -11,7 +11,7 @@ use Rattle.newyear.specs.NewYear.{delayIn, newYear, yearLength, yearOf}
 use Rattle.newyear.specs.Kinds.{kindOf, kindNumber}
 use Rattle.newyear.specs.declared.NewYearAnswer.{NewYearAnswer}
 use Rattle.newyear.specs.declared.YearAnswer.{YearAnswer}
-use Rattle.newyear.specs.declared.kinds.KindAnswer.{KindAnswer}
+use Rattle.newyear.specs.declared.KindAnswer.{KindAnswer}
 use Rattle.newyear.specs.declared.YearOfDayAnswer.{YearOfDayAnswer}
 
 abbrev pub noNewYear : ℕ → NewYearAnswer

@@ -11,7 +11,7 @@ use Rattle.newyear.specs.NewYear.{newYear}
 use Rattle.newyear.specs.Kinds.{kindCode, kinds}
 use Rattle.newyear.specs.Answers.{kindAnswer}
 use Rattle.newyear.specs.declared.NewYearAnswer.{NewYearAnswer}
-use Rattle.newyear.specs.declared.kinds.KindAnswer.{KindAnswer}
+use Rattle.newyear.specs.declared.KindAnswer.{KindAnswer}
 
 -- What the New Year of year h promises, by either route: its day j; the molad's day and time t; and how many days lie
 -- between, and why.

@@ -3,5 +3,5 @@ fn main() {
     // Twice five figures, each with what follows them, tell the answer (crate wording, theorem `enough`).
     let mut space = [0u8; 12];
     let n = reading::read_lines(2, &mut space);
-    wording::print(&space[..n]);
+    wording_code::print(&space[..n]);
 }

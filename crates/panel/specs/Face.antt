@@ -16,7 +16,7 @@ use Rattle.notice.specs.declared.NoticeAnswer.{NoticeAnswer}
 use Rattle.newyear.specs.Answers.{newYearAnswer, yearAnswer, kindAnswer, yearOfDayAnswer}
 use Rattle.newyear.specs.declared.NewYearAnswer.{NewYearAnswer}
 use Rattle.newyear.specs.declared.YearAnswer.{YearAnswer}
-use Rattle.newyear.specs.declared.kinds.KindAnswer.{KindAnswer}
+use Rattle.newyear.specs.declared.KindAnswer.{KindAnswer}
 use Rattle.newyear.specs.declared.YearOfDayAnswer.{YearOfDayAnswer}
 use Rattle.rhodes.specs.Answers.{rhodesAnswer}
 use Rattle.hebrew.specs.Answers.{monthAnswer, hebrewDay, hebrewDate}
@@ -31,9 +31,9 @@ use Rattle.stretch.specs.declared.StretchAnswer.{StretchAnswer}
 use Rattle.sheet.specs.Answers.{wingSheet, wingSheetBuffer}
 use Rattle.loaded.specs.Rows.{rowsAnswer, namedAnswer}
 use Rattle.loaded.specs.Walk.{begunAt, stepAt}
-use Rattle.loaded.specs.declared.years.RowsAnswer.{RowsAnswer}
-use Rattle.loaded.specs.declared.walk.Begun.{Begun}
-use Rattle.loaded.specs.declared.walk.Stepped.{Stepped}
+use Rattle.loaded.specs.declared.RowsAnswer.{RowsAnswer}
+use Rattle.loaded.specs.declared.Begun.{Begun}
+use Rattle.loaded.specs.declared.Stepped.{Stepped}
 
 abbrev pub bdWeekday : ℕ → WeekdayAnswer
 bdWeekday day = weekdayAnswer day

@@ -13,26 +13,26 @@ pub extern "C" fn bd_weekday(day: u64) -> days::WeekdayAnswer
 pub extern "C" fn bd_julian_to_day(year: i64, month: u64, day: u64) -> civil::CivilDay
     ensures { λ r. ⌜ r ≡ bdJulianToDay year month day ⌝ }
 {
-    civil::julian_to_day(year, month, day)
+    civil_code::julian_to_day(year, month, day)
 }
 
 #[no_mangle]
 pub extern "C" fn bd_gregorian_to_day(year: i64, month: u64, day: u64) -> civil::CivilDay
     ensures { λ r. ⌜ r ≡ bdGregorianToDay year month day ⌝ }
 {
-    civil::gregorian_to_day(year, month, day)
+    civil_code::gregorian_to_day(year, month, day)
 }
 
 #[no_mangle]
 pub extern "C" fn bd_day_to_julian(day: u64) -> civil::CivilDate
     ensures { λ r. ⌜ r ≡ bdDayToJulian day ⌝ }
 {
-    civil::day_to_julian(day)
+    civil_code::day_to_julian(day)
 }
 
 #[no_mangle]
 pub extern "C" fn bd_day_to_gregorian(day: u64) -> civil::CivilDate
     ensures { λ r. ⌜ r ≡ bdDayToGregorian day ⌝ }
 {
-    civil::day_to_gregorian(day)
+    civil_code::day_to_gregorian(day)
 }

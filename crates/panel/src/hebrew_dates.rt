@@ -6,19 +6,19 @@ ghost use Rattle.panel.specs.Face.{bdMonthLength, bdHebrewToDay, bdDayTo
 pub extern "C" fn bd_month_length(year: u64, month: u64) -> hebrew::MonthAnswer
     ensures { λ r. ⌜ r ≡ bdMonthLength year month ⌝ }
 {
-    hebrew::month_length(year, month)
+    hebrew_code::month_length(year, month)
 }
 
 #[no_mangle]
 pub extern "C" fn bd_hebrew_to_day(year: u64, month: u64, day: u64) -> hebrew::HebrewDay
     ensures { λ r. ⌜ r ≡ bdHebrewToDay year month day ⌝ }
 {
-    hebrew::hebrew_to_day(year, month, day)
+    hebrew_code::hebrew_to_day(year, month, day)
 }
 
 #[no_mangle]
 pub extern "C" fn bd_day_to_hebrew(day: u64) -> hebrew::HebrewDate
     ensures { λ r. ⌜ r ≡ bdDayToHebrew day ⌝ }
 {
-    hebrew::day_to_hebrew(day)
+    hebrew_code::day_to_hebrew(day)
 }

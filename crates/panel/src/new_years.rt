@@ -6,47 +6,47 @@ ghost use Rattle.panel.specs.Face.{bdMolad, bdNotice, bdNewYear, bdNewYe
 pub extern "C" fn bd_molad(year: u64, month: u64) -> molad::MoladAnswer
     ensures { λ r. ⌜ r ≡ bdMolad year month ⌝ }
 {
-    molad::molad(year, month)
+    molad_code::molad(year, month)
 }
 
 #[no_mangle]
 pub extern "C" fn bd_notice(year: u64, month: u64) -> notice::NoticeAnswer
     ensures { λ r. ⌜ r ≡ bdNotice year month ⌝ }
 {
-    notice::notice(year, month)
+    notice_code::notice(year, month)
 }
 
 #[no_mangle]
 pub extern "C" fn bd_new_year(year: u64) -> newyear::NewYearAnswer
     ensures { λ r. ⌜ r ≡ bdNewYear year ⌝ }
 {
-    newyear::new_year(year)
+    newyear_code::new_year(year)
 }
 
 #[no_mangle]
 pub extern "C" fn bd_new_year_rhodes(year: u64) -> newyear::NewYearAnswer
     ensures { λ r. ⌜ r ≡ bdNewYearRhodes year ⌝ }
 {
-    rhodes::new_year_rhodes(year)
+    rhodes_code::new_year_rhodes(year)
 }
 
 #[no_mangle]
 pub extern "C" fn bd_year(year: u64) -> newyear::YearAnswer
     ensures { λ r. ⌜ r ≡ bdYear year ⌝ }
 {
-    newyear::year(year)
+    newyear_code::year(year)
 }
 
 #[no_mangle]
 pub extern "C" fn bd_kind(year: u64) -> newyear::KindAnswer
     ensures { λ r. ⌜ r ≡ bdKind year ⌝ }
 {
-    newyear::kind(year)
+    newyear_code::kind(year)
 }
 
 #[no_mangle]
 pub extern "C" fn bd_year_of_day(day: u64) -> newyear::YearOfDayAnswer
     ensures { λ r. ⌜ r ≡ bdYearOfDay day ⌝ }
 {
-    newyear::year_of_day(day)
+    newyear_code::year_of_day(day)
 }

@@ -6,19 +6,19 @@ ghost use Rattle.panel.specs.Face.{bdStretch, bdRestDays, bdRestDaysLeav
 pub extern "C" fn bd_stretch(wing: u64, day: u64) -> stretch::StretchAnswer
     ensures { λ r. ⌜ r ≡ bdStretch wing day ⌝ }
 {
-    stretch::stretch(wing, day)
+    stretch_code::stretch(wing, day)
 }
 
 #[no_mangle]
 pub extern "C" fn bd_rest_days(wing: u64, year: u64, out: &mut [u64]) -> rest::ListAnswer
     ensures { λ r. ⌜ (r ≡ bdRestDays wing year (now (out .entry))) × (now (out .exit) ≡ bdRestDaysLeaves wing year (now (out .entry))) ⌝ }
 {
-    rest::rest_days(wing, year, out)
+    rest_code::rest_days(wing, year, out)
 }
 
 #[no_mangle]
 pub extern "C" fn bd_stretches(wing: u64, year: u64, out: &mut [u64]) -> rest::ListAnswer
     ensures { λ r. ⌜ (r ≡ bdStretches wing year (now (out .entry))) × (now (out .exit) ≡ bdStretchesLeaves wing year (now (out .entry))) ⌝ }
 {
-    stretches::stretches(wing, year, out)
+    stretches_code::stretches(wing, year, out)
 }

@@ -17,7 +17,7 @@ pub fn read_lines(lines: u64, space: &mut [u8]) -> usize
         }
         space[n] = byte[0];
         n += 1;
-        wanted -= laws::pick(byte[0] == line::LINE_END, 1, 0);
+        wanted -= laws::pick(byte[0] == line_code::LINE_END, 1, 0);
     }
     n
 }

@@ -22,7 +22,7 @@ use Rattle.rest.specs.Steps.{restOn, listRefusal}
 use Rattle.rest.specs.Promises.{RestDaysOf, restCount, KeptBy}
 use Rattle.rest.specs.Answers.{noList, listAnswer, listBuffer, restDaysAnswer, restDaysBuffer, wingRestDays, wingRestDaysBuffer}
 use Rattle.rest.specs.declared.ListAnswer.{ListAnswer}
-use Rattle.hebrew.specs.declared.date.YearDate.{YearDate}
+use Rattle.hebrew.specs.declared.YearDate.{YearDate}
 use Rattle.rest.proofs.Passed.{tables-pass}
 use Rattle.rest.proofs.Days.{rest-days-of}
 use Rattle.rest.proofs.Wings.{wing-promised, wing-lent, rest-count}

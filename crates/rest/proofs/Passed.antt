@@ -14,7 +14,7 @@ use Rattle.newyear.specs.Kinds.{lengths, IsLength, kinds, everyKind}
 use Rattle.hebrew.specs.Months.{monthLength, daysBefore}
 use Rattle.hebrew.specs.Dates.{monthOf}
 use Rattle.hebrew.specs.Steps.{yearDate, tomorrow}
-use Rattle.hebrew.specs.declared.date.YearDate.{YearDate}
+use Rattle.hebrew.specs.declared.YearDate.{YearDate}
 use Rattle.hebrew.proofs.Walked.{tomorrow-is}
 use Rattle.rest.specs.Table.{row, restTable, guestTable}
 use Rattle.rest.specs.Wings.{tableOf}

@@ -10,7 +10,7 @@ use Rattle.molad.specs.Years.{outOfYears}
 use Rattle.hebrew.specs.Steps.{yearDate}
 use Rattle.rest.specs.Table.{row}
 use Rattle.rest.specs.Wings.{outOfWings}
-use Rattle.hebrew.specs.declared.date.YearDate.{YearDate}
+use Rattle.hebrew.specs.declared.YearDate.{YearDate}
 
 -- A date of the year is a Saturday, or a row of the table.
 abbrev pub restOn : List ℕ → ℕ → YearDate → Bool

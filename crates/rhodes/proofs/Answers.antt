@@ -10,8 +10,6 @@ use Rattle.newyear.specs.Promises.{PromisedNewYear}
 use Rattle.newyear.proofs.Answers.{on-promised, because, new-year-promised}
 use Rattle.rhodes.specs.Rhodes.{rhodesDelay, rhodesNewYear, rhodesMoladDay, rhodesMoladTime}
 use Rattle.rhodes.specs.Answers.{rhodesAnswer}
-use Rattle.rhodes.specs.Steps.{routeOf, IsRoute}
-use Rattle.rhodes.specs.declared.steps.Route.{Route}
 use Rattle.rhodes.proofs.Same.{same-route, same-answer}
 
 pub new-year-rhodes-promised : (h : ℕ) → PromisedNewYear h (rhodesNewYear h) (rhodesMoladDay h) (rhodesMoladTime h) (rhodesAnswer h)
@@ -23,12 +21,9 @@ new-year-rhodes-promised h =
 pub new-year-rhodes-counted : (h : ℕ) → PromisedNewYear h (newYear h) (moladDay h 1) (moladTime h 1) (rhodesAnswer h)
 new-year-rhodes-counted h = rw (same-answer h) (new-year-promised h)
 
--- One answer, and one result of the step.
+-- One answer.
 pub new-year-rhodes-one : (h : ℕ) (r s : NewYearAnswer) → r ≡ rhodesAnswer h → s ≡ rhodesAnswer h → r ≡ s
 new-year-rhodes-one h = one-result (rhodesAnswer h)
-
-pub route-of-one : (h : ℕ) (r s : Route) → IsRoute h r → IsRoute h s → r ≡ s
-route-of-one h r s p q = one-result (routeOf h) r s (p .0) (q .0)
 
 -- What `new_year_rhodes` may return is what `new_year` may return.
 pub same-results : (h : ℕ) (r s : NewYearAnswer) → r ≡ rhodesAnswer h → s ≡ newYearAnswer h → r ≡ s

@@ -1,4 +1,3 @@
 pub mod Rhodes
 pub mod Answers
-pub mod Steps
 pub mod Fixed

@@ -4,5 +4,5 @@ fn main() {
     // `enough`).
     let mut space = [0u8; 19];
     let n = reading::read_lines(3, &mut space);
-    filing::write(&space[..n]);
+    filing_code::write(&space[..n]);
 }

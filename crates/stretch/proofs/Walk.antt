@@ -10,7 +10,7 @@ use Rattle.newyear.specs.Kinds.{IsLength}
 use Rattle.hebrew.specs.Steps.{yearDate}
 use Rattle.hebrew.proofs.Walked.{date-small}
 use Rattle.rest.specs.Steps.{restOn, restAt}
-use Rattle.hebrew.specs.declared.date.YearDate.{YearDate}
+use Rattle.hebrew.specs.declared.YearDate.{YearDate}
 
 module _ (p : ℕ → Bool) (len y : ℕ) where
   pub search-here : y < len → p y ≡ true → seek p (len - y) y ≡ y

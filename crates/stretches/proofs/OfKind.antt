@@ -19,7 +19,7 @@ use Rattle.newyear.proofs.Lengths.{length-in, kind-in, kind-passes}
 use Rattle.hebrew.specs.Months.{monthLength, daysBefore}
 use Rattle.hebrew.specs.Dates.{monthOf}
 use Rattle.hebrew.specs.Steps.{yearDate, tomorrow}
-use Rattle.hebrew.specs.declared.date.YearDate.{YearDate}
+use Rattle.hebrew.specs.declared.YearDate.{YearDate}
 use Rattle.hebrew.proofs.Walked.{tomorrow-is}
 use Rattle.rest.specs.Table.{restTable, guestTable}
 use Rattle.rest.specs.Wings.{tableOf}
