@@ -50,7 +50,7 @@ fn all_placed(sheet: &[u8], years: u64) -> bool
 pub fn sheet_refusal(wing: u64, sheet: &[u8]) -> u64
     ensures { λ r. ⌜ r ≡ loadedRefusal wing (now (sheet .entry)) ⌝ }
 {
-    if rest_code::out_of_wings(wing) {
+    if rest_table::out_of_wings(wing) {
         return 15;
     }
     if sheet.len() < 16 {

@@ -1,8 +1,8 @@
 // Sheets cut off and changed: how many are refused with each number.
 ghost use Prim.Native.Nat.{_≤_};
-use ask_held::Held;
-use ask_held::sheet_of;
-use ask_held::unless;
+ghost use lib.ListN.{getD};
+use answering::first_bytes;
+use asking::MOST;
 use show::end;
 use show::plain;
 use show::text;
@@ -36,7 +36,7 @@ pub fn print_cuts(wing: u64, sheet: &[u8]) -> bool {
     while n < sheet.len() {
         counted(
             &mut counts,
-            accepted_code::sheet_refusal(wing, sheet_of(sheet, n)),
+            accepted_code::sheet_refusal(wing, first_bytes(sheet, n)),
         );
         n += 1;
     }
@@ -49,70 +49,45 @@ fn turn(sheet: &mut [u8], at: usize, by: u8) {
     }
 }
 
-// A byte of the sheet made other values; then it is what it was.
-fn change(
-    wing: u64,
-    space: &mut [u8],
-    length: usize,
-    year: u64,
-    apart: u64,
-    at: usize,
-    counts: &mut [u64; 20],
-)
-    requires { ⌜ (1 ≤ apart) × (apart ≤ 255) ⌝ }
+// A byte of the sheet made other values; then it is what it was. The numbers are those of `print_changes`.
+fn change(n: [u64; MOST], space: &mut [u8], length: usize, at: usize, counts: &mut [u64; 20])
+    requires { ⌜ (1 ≤ getD n 2 0) × (getD n 2 0 ≤ 255) ⌝ }
 {
     let mut turned: u64 = 0;
     while turned < 255 {
-        turn(space, at, apart as u8);
+        turn(space, at, n[2] as u8);
         counted(
             counts,
-            loaded_code::rows_place(wing, sheet_of(space, length), year).refusal,
+            loaded_code::rows_place(n[0], first_bytes(space, length), n[1]).refusal,
         );
-        turned += apart;
+        turned += n[2];
     }
     turn(space, at, 1);
 }
 
-fn change_bytes(
-    wing: u64,
-    space: &mut [u8],
-    length: usize,
-    year: u64,
-    apart: u64,
-    from: usize,
-    to: usize,
-) -> bool
-    requires { ⌜ (1 ≤ apart) × (apart ≤ 255) ⌝ }
+fn change_bytes(n: [u64; MOST], space: &mut [u8], length: usize, to: u64) -> bool
+    requires { ⌜ (1 ≤ getD n 2 0) × (getD n 2 0 ≤ 255) ⌝ }
 {
     let mut counts = [0; 20];
-    let mut at = from;
+    let mut at = n[3];
     while at < to {
-        change(wing, space, length, year, apart, at, &mut counts);
+        change(n, space, length, at as usize, &mut counts);
         at += 1;
     }
     print_counts(&counts)
 }
 
-// The wing, the year, how far values are apart, and the bytes from one to before another. 255 is so many times `apart`,
-// so that a last turn by one makes a byte what it was.
-pub fn print_changes(n: [u64; asking::MOST], space: &mut [u8], held: Held) -> Held {
+// The wing, the year, how far values are apart, and the bytes from one to before another. 255 has to be a multiple of how far
+// they are apart, so that a last turn by one makes a byte what it was.
+pub fn print_changes(n: [u64; MOST], space: &mut [u8], length: u64) -> bool {
     if 255 < n[2] {
-        return unless(false, held);
+        return false;
     }
     if n[2] < 1 {
-        return unless(false, held);
+        return false;
     }
-    if (255 % n[2] != 0) | ((held.length as u64) < n[4]) {
-        return unless(false, held);
+    if (255 % n[2] != 0) | (length < n[4]) {
+        return false;
     }
-    change_bytes(
-        n[0],
-        space,
-        held.length,
-        n[1],
-        n[2],
-        n[3] as usize,
-        n[4] as usize,
-    );
-    unless(true, held)
+    change_bytes(n, space, length as usize, n[4])
 }

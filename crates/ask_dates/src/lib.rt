@@ -4,12 +4,16 @@
 //     shown_date 347997      the date that the notice program shows
 //     comes_back 347998      1 if the day comes back from its Hebrew date
 //     stretch_1 347998       the same as stretch 1 347998, and stretch_2 for the guest wing
-use asking::Answer;
+mod signed;
+
+use answering::Answer;
+use answering::fields;
+use answering::more;
+use answering::no_answer;
 use asking::Numbers;
-use asking::bits;
-use asking::fields;
-use asking::no_answer;
 use asking::place;
+use signed::bits;
+use signed::first_signed;
 
 fn civil_date(date: civil::CivilDate) -> Answer {
     fields(&[date.refusal, bits(date.year), date.month, date.day])
@@ -17,17 +21,8 @@ fn civil_date(date: civil::CivilDate) -> Answer {
 
 fn hebrew_date(day: u64) -> Answer {
     let d = hebrew_code::day_to_hebrew(day);
-    fields(
-        &[
-            d.refusal,
-            d.year,
-            d.month,
-            d.day,
-            d.new_year,
-            d.length,
-            d.day_of_year,
-        ],
-    )
+    let date = fields(&[d.refusal, d.year, d.month, d.day]);
+    more(date, &[d.new_year, d.length, d.day_of_year])
 }
 
 fn stretch(wing: u64, day: u64) -> Answer {
@@ -80,8 +75,8 @@ fn civil_day(day: civil::CivilDay) -> Answer {
 
 fn of_civil_date(name: &[u8], numbers: Numbers) -> Answer {
     let n = numbers.of;
-    let year = asking::first_signed(numbers);
-    if (!numbers.good | !year.good) | (numbers.count != 3) {
+    let year = first_signed(numbers);
+    if !year.good | (numbers.count != 3) {
         return no_answer();
     }
     match place(b"julian_to_day gregorian_to_day", name) {

@@ -13,29 +13,18 @@ const BACKSLASH: u8 = 92;
 // The most bytes that an input has.
 const ROOM: usize = 64;
 
-// What a figure to the base 16 stands for; of a byte that is none, 16.
-fn worth(byte: u8) -> u64
-    ensures { λ r. ⌜ r ≤ 16 ⌝ }
-{
-    match byte {
-        48..=57 => (byte - 48) as u64,
-        97..=102 => (byte - 87) as u64,
-        _ => 16,
-    }
-}
-
 // The byte that stands at a place, or 256 for a backslash without its figures.
 fn byte_at(text: &[u8], at: usize) -> u64
     requires { ⌜ at < length (now text) ⌝ }
 {
     if text[at] != BACKSLASH {
-        return ask_held::wide(text[at]);
+        return answering::wide(text[at]);
     }
     if text.len() - at < 3 {
         return 256;
     }
-    let high = worth(text[at + 1]);
-    let low = worth(text[at + 2]);
+    let high = asking::worth(text[at + 1]);
+    let low = asking::worth(text[at + 2]);
     if (high == 16) | (low == 16) {
         return 256;
     }
@@ -69,7 +58,7 @@ fn read_input(text: &[u8], out: &mut [u8; ROOM]) -> usize {
 }
 
 fn print_pair(refusal: u64, number: u64) {
-    asking::print(asking::fields(&[refusal, number]));
+    answering::print(answering::fields(&[refusal, number]));
 }
 
 fn print_number(input: &[u8]) {
@@ -84,7 +73,7 @@ fn print_sheet(input: &[u8]) {
 }
 
 fn print(page: u64, space: &[u8; ROOM], length: usize) {
-    let input = ask_held::sheet_of(space, length);
+    let input = answering::first_bytes(space, length);
     match page {
         0 => print_number(input),
         1 => listing::print(input),

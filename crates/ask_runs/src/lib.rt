@@ -2,12 +2,12 @@
 //
 //     sum new_year 1 10000            the fields of the answers to a run of numbers, each mixed into one number
 //     count marks 1 9999 0 4 1 7      in how many years of a run field 0 is 4 and field 1 is 7, and the first of them, or 0
-ghost use Prim.Native.Nat.{_≤_};
-use asking::Answer;
-use asking::FIELDS;
+use answering::Answer;
+use answering::FIELDS;
+use answering::fields;
+use answering::mixed;
+use answering::no_answer;
 use asking::Numbers;
-use asking::fields;
-use asking::no_answer;
 use asking::place;
 use std::num::wrapping_add_u64;
 
@@ -30,33 +30,6 @@ fn of_one(call: u64, n: u64) -> Answer {
     ask_years::of_year(call - OF_DAYS, n)
 }
 
-// Field by field.
-fn mixed(sums: Answer, answer: Answer) -> Answer {
-    let mut of = sums.of;
-    let more = answer.of;
-    let mut i = 0;
-    while i < FIELDS {
-        of[i] = show::mixed(of[i], more[i]);
-        i += 1;
-    }
-    Answer {
-        count: answer.count,
-        of,
-    }
-}
-
-fn sum(call: u64, first: u64, after: u64) -> Answer
-    requires { ⌜ after ≤ 4000000 ⌝ }
-{
-    let mut sums = no_answer();
-    let mut i = 0;
-    while i <= after {
-        sums = mixed(sums, of_one(call, wrapping_add_u64(first, i)));
-        i += 1;
-    }
-    sums
-}
-
 fn has(answer: Answer, field: u64, value: u64) -> bool {
     let of = answer.of;
     if field < FIELDS as u64 {
@@ -74,22 +47,6 @@ fn counts(answer: Answer, numbers: Numbers) -> bool {
         & ((count < 8) | has(answer, n[6], n[7]))
 }
 
-fn count(call: u64, first: u64, after: u64, numbers: Numbers) -> Answer
-    requires { ⌜ after ≤ 4000000 ⌝ }
-{
-    let mut counted: u64 = 0;
-    let mut found = 0;
-    let mut i = 0;
-    while i <= after {
-        let number = wrapping_add_u64(first, i);
-        let one_more = counts(of_one(call, number), numbers);
-        found = laws::pick(one_more & (counted == 0), number, found);
-        counted += laws::pick(one_more, 1, 0);
-        i += 1;
-    }
-    fields(&[counted, found])
-}
-
 // A run is no longer than the range.
 fn run(counting: bool, call: u64, numbers: Numbers) -> Answer {
     let n = numbers.of;
@@ -97,10 +54,23 @@ fn run(counting: bool, call: u64, numbers: Numbers) -> Answer {
     if 4_000_000 < after {
         return no_answer();
     }
-    if counting {
-        return count(call, n[0], after, numbers);
+    let mut sums = no_answer();
+    let mut counted: u64 = 0;
+    let mut found = 0;
+    let mut i = 0;
+    while i <= after {
+        let number = wrapping_add_u64(n[0], i);
+        let answer = of_one(call, number);
+        let one_more = counts(answer, numbers);
+        sums = mixed(sums, answer);
+        found = laws::pick(one_more & (counted == 0), number, found);
+        counted += laws::pick(one_more, 1, 0);
+        i += 1;
     }
-    sum(call, n[0], after)
+    if counting {
+        return fields(&[counted, found]);
+    }
+    sums
 }
 
 fn run_asked(counting: bool, words: &[u8]) -> Answer {
@@ -108,7 +78,7 @@ fn run_asked(counting: bool, words: &[u8]) -> Answer {
     let numbers = asking::read_numbers(asking::later_words(words));
     let count = numbers.count;
     let wanted = (count == 2) | (counting & ((0 < count) & (count % 2 == 0)));
-    if ((CALLS <= call) | !wanted) | (!numbers.good | numbers.below) {
+    if (CALLS <= call) | numbers.below | !wanted {
         return no_answer();
     }
     run(counting, call, numbers)
@@ -127,7 +97,7 @@ pub fn answer(line: &[u8]) -> Answer {
 fn one(name: &[u8], numbers: Numbers) -> Answer {
     let n = numbers.of;
     let call = place_of_one(name);
-    if (numbers.good & !numbers.below) & ((numbers.count == 1) & (call < CALLS)) {
+    if !numbers.below & (numbers.count == 1) & (call < CALLS) {
         return of_one(call, n[0]);
     }
     let answer = ask_dates::answer(name, numbers);

@@ -18,11 +18,7 @@
 //                                  many are refused with each number
 //
 // What changes the sheet is answered with its length.
-mod rows;
-
-use ask_held::Held;
-use ask_held::sheet_of;
-use ask_held::unless;
+use answering::first_bytes;
 use asking::Numbers;
 
 // Questions that leave the sheet as it is; false if it is none of them.
@@ -30,57 +26,55 @@ fn read<'a>(name: &[u8], numbers: Numbers, sheet: &'a [u8], other: &'a [u8]) -> 
     let n = numbers.of;
     let names = b"sheet_rows sheets_rows walk sum_walk sum_rows fields cuts";
     match asking::asked(names, b"2222301", name, numbers) {
-        0 => rows::print_rows(n[0], sheet, n[1]),
-        1 => rows::print_rows_of_two(n[0], sheet, other, n[1]),
-        2 => rows::print_walk(n[0], sheet, n[1]),
-        3 => rows::print_walk_sum(n[0], sheet, n[1]),
-        4 => rows::print_rows_sum(n[0], sheet, n[1], n[2]),
-        5 => ask_held::print_fields(sheet),
+        0 => ask_rows::print_rows(n[0], sheet, n[1]),
+        1 => ask_rows::print_rows_of_two(n[0], sheet, other, n[1]),
+        2 => ask_rows::print_walk(n[0], sheet, n[1]),
+        3 => ask_rows::print_walk_sum(n[0], sheet, n[1]),
+        4 => ask_rows::print_rows_sum(n[0], sheet, n[1], n[2]),
+        5 => ask_fields::print(sheet),
         6 => ask_changes::print_cuts(n[0], sheet),
         _ => false,
     }
 }
 
 // Questions that change the sheet.
-fn change(name: &[u8], numbers: Numbers, sheet: &mut [u8], other: &[u8], held: Held) -> Held {
+fn change(
+    name: &[u8],
+    numbers: Numbers,
+    sheet: &mut [u8],
+    other: &[u8],
+    held: &mut [u64; 3],
+) -> bool {
     let n = numbers.of;
-    match asking::asked(
-        b"sheet_write length put copy changes",
-        b"41325",
-        name,
-        numbers,
-    ) {
-        0 => ask_held::write(n[0], n[1], n[2], n[3], sheet, held),
+    let names = b"sheet_write length put copy changes";
+    match asking::asked(names, b"41325", name, numbers) {
+        0 => ask_held::write(n, sheet, held),
         1 => ask_held::lengthen(n[0], sheet, held),
-        2 => ask_held::put(n[0], n[1], n[2], sheet, held),
-        3 => ask_held::copy(n[0], n[1], other, sheet, held),
-        4 => ask_changes::print_changes(n, sheet, held),
-        _ => unless(
-            read(
-                name,
-                numbers,
-                sheet_of(sheet, held.length),
-                sheet_of(other, held.other),
-            ),
-            held,
+        2 => ask_held::put(n, sheet, held[0]),
+        3 => ask_held::copy(n, other, sheet, held[0]),
+        4 => ask_changes::print_changes(n, sheet, held[0]),
+        _ => read(
+            name,
+            numbers,
+            first_bytes(sheet, held[0] as usize),
+            first_bytes(other, held[1] as usize),
         ),
     }
 }
 
-// Answers a question; `understood` tells whether it was one.
-pub fn answered(name: &[u8], numbers: Numbers, one: &mut [u8], two: &mut [u8], held: Held) -> Held {
+// Answers a question, or answers false. `held` has the bytes of the sheet, those of the other one, and 1 if the sheet stands
+// in the second space.
+pub fn answered(line: &[u8], one: &mut [u8], two: &mut [u8], held: &mut [u64; 3]) -> bool {
+    let name = asking::first_word(line);
+    let numbers = asking::read_numbers(asking::later_words(line));
     if asking::asked(b"exchange", b"0", name, numbers) == 0 {
-        return ask_held::long(
-            held.other,
-            Held {
-                understood: true,
-                exchanged: !held.exchanged,
-                length: 0,
-                other: held.length,
-            },
-        );
+        let other = held[1];
+        held[1] = held[0];
+        held[0] = other;
+        held[2] = laws::pick(held[2] == 0, 1, 0);
+        return ask_held::told(other);
     }
-    if held.exchanged {
+    if held[2] == 1 {
         return change(name, numbers, two, one, held);
     }
     change(name, numbers, one, two, held)

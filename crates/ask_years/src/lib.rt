@@ -7,41 +7,22 @@
 //     rhodes_steps 5762      Rhodes' n, r, D; i' and f'; i and f; w; the delay and its cause
 //     delay 2 17 39 0 1      the delay and its cause, by the molad's weekday, hour and part, and whether the year and the one
 //                            before it are leap
-use asking::Answer;
-use asking::FIELDS;
+use answering::Answer;
+use answering::fields;
+use answering::more;
+use answering::no_answer;
 use asking::Numbers;
-use asking::fields;
-use asking::no_answer;
 
 fn new_year(y: newyear::NewYearAnswer) -> Answer {
-    let molad = [y.molad_day, y.molad_hour, y.molad_part];
-    fields(
-        &[
-            y.refusal,
-            y.day,
-            y.weekday,
-            molad[0],
-            molad[1],
-            molad[2],
-            y.delay,
-            y.cause,
-        ],
-    )
+    let day = fields(&[y.refusal, y.day, y.weekday]);
+    let molad = more(day, &[y.molad_day, y.molad_hour, y.molad_part]);
+    more(molad, &[y.delay, y.cause])
 }
 
 fn whole_year(year: u64) -> Answer {
     let y = newyear_code::year(year);
-    fields(
-        &[
-            y.refusal,
-            y.new_year,
-            y.weekday,
-            y.length,
-            y.months,
-            y.delay,
-            y.cause,
-        ],
-    )
+    let days = fields(&[y.refusal, y.new_year, y.weekday, y.length]);
+    more(days, &[y.months, y.delay, y.cause])
 }
 
 fn kind(year: u64) -> Answer {
@@ -60,33 +41,18 @@ fn notice(year: u64, month: u64) -> Answer {
 }
 
 fn routes_differ(year: u64) -> Answer {
-    let counted = new_year(newyear_code::new_year(year));
-    let rhodes = new_year(rhodes_code::new_year_rhodes(year));
-    fields(&[laws::pick(differ(counted, rhodes), 1, 0)])
-}
-
-fn differ(one: Answer, other: Answer) -> bool {
-    let a = one.of;
-    let b = other.of;
-    let mut i = 0;
-    while i < FIELDS {
-        if a[i] != b[i] {
-            return true;
-        }
-        i += 1;
-    }
-    false
+    let a = newyear_code::new_year(year);
+    let b = rhodes_code::new_year_rhodes(year);
+    let day = (a.refusal == b.refusal) & (a.day == b.day) & (a.weekday == b.weekday);
+    let hour = (a.molad_hour == b.molad_hour) & (a.molad_part == b.molad_part);
+    let late = (a.delay == b.delay) & (a.cause == b.cause);
+    fields(&[laws::pick(day & (a.molad_day == b.molad_day) & hour & late, 0, 1)])
 }
 
 fn marks(year: u64) -> Answer {
     let before = newyear_code::kind(std::num::wrapping_sub_u64(year, 1));
-    fields(
-        &[
-            newyear_code::new_year(year).cause,
-            newyear_code::kind(year).kind,
-            before.kind,
-        ],
-    )
+    let kind = newyear_code::kind(year);
+    fields(&[newyear_code::new_year(year).cause, kind.kind, before.kind])
 }
 
 // The steps take a range, and what lies outside it is not understood.
@@ -108,27 +74,9 @@ fn rhodes_steps(year: u64) -> Answer {
         return no_answer();
     }
     let r = rhodes_code::route_of(year);
-    let molad = [
-        r.place,
-        r.since_leap,
-        r.distance,
-        r.molad_august,
-        r.molad_part,
-    ];
-    fields(
-        &[
-            molad[0],
-            molad[1],
-            molad[2],
-            molad[3],
-            molad[4],
-            r.august,
-            r.part,
-            r.weekday,
-            r.delay,
-            r.cause,
-        ],
-    )
+    let distance = fields(&[r.place, r.since_leap, r.distance]);
+    let molad = more(distance, &[r.molad_august, r.molad_part, r.august, r.part]);
+    more(molad, &[r.weekday, r.delay, r.cause])
 }
 
 fn delay(weekday: u64, hour: u64, part: u64, leap: bool, after_leap: bool) -> Answer {

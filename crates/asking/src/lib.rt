@@ -1,20 +1,13 @@
-// A question is a line of words, one blank apart: a name, then numbers. An answer is numbers.
+// A question is a line of words, one blank apart: a name, then numbers.
 ghost use Rattle.io.specs.Counts.{Counts};
 
-mod answer;
 mod numbers;
 
-pub use answer::Answer;
-pub use answer::FIELDS;
-pub use answer::bits;
-pub use answer::fields;
-pub use answer::no_answer;
-pub use answer::print;
+pub use numbers::LARGEST_SIGNED;
 pub use numbers::MOST;
 pub use numbers::Numbers;
-pub use numbers::Signed;
-pub use numbers::first_signed;
 pub use numbers::read_numbers;
+pub use numbers::worth;
 
 pub const BLANK: u8 = 32;
 
@@ -67,15 +60,15 @@ pub fn place(names: &[u8], name: &[u8]) -> u64 {
     place
 }
 
-// The same of a question: no name's place, unless its numbers are good, none of them is below 0, and they are as many as
-// `counts` has at that place, one figure for each name.
+// The same of a question: no name's place, unless none of its numbers is below 0, and they are as many as `counts` has at
+// that place, one figure for each name.
 pub fn asked(names: &[u8], counts: &[u8], name: &[u8], numbers: Numbers) -> u64 {
     let place = place(names, name);
     if (counts.len() as u64) <= place {
         return u64::MAX;
     }
-    let wanted = numbers::worth(counts[place as usize]);
-    if (!numbers.good | numbers.below) | (wanted != numbers.count as u64) {
+    let wanted = worth(counts[place as usize]);
+    if numbers.below | (wanted != numbers.count as u64) {
         return u64::MAX;
     }
     place

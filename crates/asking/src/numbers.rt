@@ -8,11 +8,10 @@ const MINUS: u8 = 45;
 pub const MOST: usize = 8;
 
 // The largest number that has room for a sign.
-const LARGEST_SIGNED: u64 = 9_223_372_036_854_775_807;
+pub const LARGEST_SIGNED: u64 = 9_223_372_036_854_775_807;
 
 pub struct Numbers {
-    // Every word is a number, and there are not too many.
-    pub good: bool,
+    // One more than there may be, if a word is no number or there are too many.
     pub count: usize,
     // Whether the first is below 0.
     pub below: bool,
@@ -24,19 +23,20 @@ struct Number {
     of: u64,
 }
 
-// What a figure stands for; of a byte that is none, 10.
+// What a figure to the base 16 stands for; of a byte that is none, 16.
 pub fn worth(byte: u8) -> u64
-    ensures { λ r. ⌜ r ≤ 10 ⌝ }
+    ensures { λ r. ⌜ r ≤ 16 ⌝ }
 {
     match byte {
         48..=57 => (byte - 48) as u64,
-        _ => 10,
+        97..=102 => (byte - 87) as u64,
+        _ => 16,
     }
 }
 
 // A number with one figure more, if 64 bits hold it.
 fn with_figure(number: Number, figure: u64) -> Number
-    requires { ⌜ figure ≤ 10 ⌝ }
+    requires { ⌜ figure ≤ 16 ⌝ }
 {
     let none = Number { good: false, of: 0 };
     if 9 < figure {
@@ -76,21 +76,19 @@ fn begins_below(word: &[u8]) -> bool {
 fn with_number(numbers: Numbers, word: &[u8]) -> Numbers {
     let below = begins_below(word);
     let number = figures(word, laws::pick(below, 1, 0) as usize);
-    let fits = !below | (number.of <= LARGEST_SIGNED + 1);
-    let mut of = numbers.of;
     let at = numbers.count;
+    let fits = !below | ((at == 0) & (number.of <= LARGEST_SIGNED + 1));
+    let mut of = numbers.of;
     if at < MOST {
         of[at] = number.of;
         return Numbers {
-            good: numbers.good & (number.good & (fits & !(below & (0 < at)))),
-            count: at + 1,
+            count: if number.good & fits { at + 1 } else { MOST + 1 },
             below: numbers.below | below,
             of,
         };
     }
     Numbers {
-        good: false,
-        count: at,
+        count: MOST + 1,
         below: false,
         of,
     }
@@ -98,7 +96,6 @@ fn with_number(numbers: Numbers, word: &[u8]) -> Numbers {
 
 pub fn read_numbers(words: &[u8]) -> Numbers {
     let mut numbers = Numbers {
-        good: true,
         count: 0,
         below: false,
         of: [0; MOST],
@@ -110,26 +107,4 @@ pub fn read_numbers(words: &[u8]) -> Numbers {
         at = end + 1;
     }
     numbers
-}
-
-pub struct Signed {
-    pub good: bool,
-    pub number: i64,
-}
-
-// The first number with its sign: 2^63 only below 0.
-pub fn first_signed(numbers: Numbers) -> Signed {
-    let of = numbers.of;
-    let below = numbers.below;
-    if LARGEST_SIGNED < of[0] {
-        return Signed {
-            good: below,
-            number: i64::MIN,
-        };
-    }
-    let number = of[0] as i64;
-    Signed {
-        good: true,
-        number: if below { 0 - number } else { number },
-    }
 }

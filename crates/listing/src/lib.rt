@@ -49,7 +49,7 @@ fn year(year: u64) {
         return;
     }
     head(year, facts);
-    let mut days = [0u64; rest_code::REST_ROWS];
+    let mut days = [0u64; rest_table::REST_ROWS];
     rest_code::rest_days(1, year, &mut days);
     rows(&days);
 }

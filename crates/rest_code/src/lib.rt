@@ -1,6 +1,4 @@
-// The code that answers which days are a wing's rest days.
-mod table;
-
+// The code that lists a year's rest days by the wing's table.
 ghost use mathlib.Core.Path.{_≡_};
 ghost use mathlib.Core.Bool.{true};
 ghost use Prim.Native.Nat.{_≤_};
@@ -14,12 +12,10 @@ ghost use Rattle.rest.specs.Steps.{listRefusal};
 ghost use Rattle.rest.specs.Check.{rowGood};
 ghost use Rattle.rest.specs.Answers.{noList, wingRestDays, wingRestDaysBuffer};
 use rest::ListAnswer;
-use table::GUEST_TABLE;
-pub use table::REST_ROWS;
-use table::REST_TABLE;
-pub use table::out_of_wings;
-pub use table::rest_on;
-use table::rows;
+use rest_table::GUEST_TABLE;
+use rest_table::REST_TABLE;
+use rest_table::out_of_wings;
+use rest_table::rows;
 
 // A step: what refuses a list of the year before its buffer is looked at. 15 for a wing that is neither 1 nor 2; 1 for a
 // year outside 1..9999; else 0.

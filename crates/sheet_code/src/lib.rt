@@ -1,8 +1,6 @@
 // The code that writes the sheet of a wing's stretches. How many rows there are is told by the years themselves, so that each
 // year's stretches are worked out twice: first to count them, and so to know how many bytes are wanted, then to write them.
 // Nothing is written before it is known that all of it has room.
-mod rows;
-
 ghost use mathlib.Core.Path.{_≡_};
 ghost use Prim.Native.Nat.{_≤_};
 ghost use Rattle.sheet.specs.Sheet.{mostYears};
@@ -29,7 +27,7 @@ pub fn ends_outside(first_year: u64, years: u64) -> bool
 pub fn sheet_write(wing: u64, first_year: u64, years: u64, out: &mut [u8]) -> rest::ListAnswer
     ensures { λ r. ⌜ (r ≡ wingSheet wing «first_year» years (now (out .entry))) × (now (out .exit) ≡ wingSheetBuffer wing «first_year» years (now (out .entry))) ⌝ }
 {
-    if rest_code::out_of_wings(wing) {
+    if rest_table::out_of_wings(wing) {
         return rest_code::no_list(15);
     }
     if (years < 1) | (MOST_YEARS < years) {
@@ -38,7 +36,7 @@ pub fn sheet_write(wing: u64, first_year: u64, years: u64, out: &mut [u8]) -> re
     if ends_outside(first_year, years) {
         return rest_code::no_list(1);
     }
-    let rows = rows::count_rows(wing, first_year, years);
+    let rows = sheet_years::count_rows(wing, first_year, years);
     let size = 16 + 8 * years + 6 * rows;
     if (out.len() as u64) < size {
         return rest::ListAnswer {
@@ -47,7 +45,7 @@ pub fn sheet_write(wing: u64, first_year: u64, years: u64, out: &mut [u8]) -> re
         };
     }
     layout_code::put_header(out, years, first_year, rows);
-    rows::write_years(wing, first_year, years, out);
+    sheet_years::write_years(wing, first_year, years, out);
     rest::ListAnswer {
         refusal: 0,
         count: size,

@@ -32,7 +32,7 @@ fn refused(number: u64) -> StretchAnswer
 pub fn stretch(wing: u64, day: u64) -> StretchAnswer
     ensures { λ r. ⌜ r ≡ wingStretch wing day ⌝ }
 {
-    if rest_code::out_of_wings(wing) {
+    if rest_table::out_of_wings(wing) {
         return refused(15);
     }
     if days::out_of_range(day) {

@@ -20,7 +20,7 @@ fn first_day(wing: u64, weekday: u64, length: u64, from: YearDate, wanted: bool)
 {
     let mut date = from;
     while date.after < length {
-        if rest_code::rest_on(wing, weekday, date) == wanted {
+        if rest_table::rest_on(wing, weekday, date) == wanted {
             return date;
         }
         date = hebrew_months::next_date(length, date);
@@ -35,7 +35,7 @@ fn run_start(wing: u64, weekday: u64, length: u64, x: u64) -> u64
 {
     let mut first = x;
     while 0 < first {
-        if !rest_code::rest_on(wing, weekday, hebrew_months::date_after(length, first - 1)) {
+        if !rest_table::rest_on(wing, weekday, hebrew_months::date_after(length, first - 1)) {
             return first;
         }
         first -= 1;

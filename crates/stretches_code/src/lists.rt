@@ -21,7 +21,7 @@ pub fn write_rows(wing: u64, weekday: u64, new_year: u64, length: u64, out: &mut
     let mut run = 0;
     let mut date = hebrew_months::date_after(length, 0);
     while date.after < length {
-        let rests = rest_code::rest_on(wing, weekday, date);
+        let rests = rest_table::rest_on(wing, weekday, date);
         if !rests & (0 < run) {
             out[n] = new_year + date.after - run;
             out[n + 1] = run;

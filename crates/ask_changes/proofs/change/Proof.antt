@@ -6,10 +6,10 @@ use Rattle.ask_changes.proofs.change.Statement.{statement}
 use Rattle.ask_changes.proofs.change.Tie as tie
 
 abbrev Inv-loop : tie.InvT-loop
-Inv-loop wing space₀ length year apart at counts₀ turned₀ space counts turned = (turned ≤ 509) × (ListN·length space ≡ ListN·length space₀)
+Inv-loop space₀ length at counts₀ n turned₀ space counts turned = (turned ≤ 509) × (ListN·length space ≡ ListN·length space₀)
 
 abbrev μ-loop : tie.MeasureT-loop
-μ-loop wing space₀ length year apart at counts₀ turned₀ space counts turned = 255 - turned
+μ-loop space₀ length at counts₀ n turned₀ space counts turned = 255 - turned
 
 pub change-spec : {M : Type 1} → statement M
 change-spec =
@@ -17,6 +17,10 @@ change-spec =
     (tie.spec
     Inv-loop
     μ-loop
+    (search needs)
+    (search needs)
+    (search needs)
+    (search needs)
     (search needs)
     (search needs)
     (search needs)
