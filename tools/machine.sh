@@ -40,7 +40,8 @@ install_package() { # PACKAGE WHY
     command -v apt-get >/dev/null || fail "$2, and there is no apt-get to install $1"
     DEBIAN_FRONTEND=noninteractive
     export DEBIAN_FRONTEND
-    { apt-get -qq install -y "$1" || { apt-get -qq update && apt-get -qq install -y "$1"; }; } >/dev/null 2>&1 ||
+    # one at a time, where tests run side by side
+    (flock 9 && { apt-get -qq install -y "$1" || { apt-get -qq update && apt-get -qq install -y "$1"; }; }) 9<"${BASH_SOURCE[0]}" >/dev/null 2>&1 ||
         fail "$2, and apt-get could not install $1"
 }
 
@@ -78,15 +79,21 @@ made() {
     shift 2
     fresh "$file" && return
     need_rt
-    echo "proving and building $what, once until a source or the kit changes: up to three minutes on two cores" >&2
     mkdir -p target
-    rt "$@" 2>&1 | follow $log || {
-        cat $log >&2
-        fail "rt $*"
-    }
-    [ -f "$file" ] || fail "rt $* left no $file; make clean has it begin from nothing"
-    touch "$file"
-    rt version >"$file.kit"
+    # one at a time: what another command is making may be this very file
+    exec 8>target/making
+    flock 8
+    if ! fresh "$file"; then
+        echo "proving and building $what, once until a source or the kit changes: up to three minutes on two cores" >&2
+        rt "$@" 2>&1 | follow $log || {
+            cat $log >&2
+            fail "rt $*"
+        }
+        [ -f "$file" ] || fail "rt $* left no $file; make clean has it begin from nothing"
+        touch "$file"
+        rt version >"$file.kit"
+    fi
+    exec 8>&-
 }
 
 # The archive of the C face.
