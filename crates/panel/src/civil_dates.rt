@@ -1,6 +1,6 @@
 // Day numbers, weekdays and civil dates.
 ghost use mathlib.Core.Path.{_≡_};
-ghost use Rattle.panel.specs.Face.{bdWeekday, bdJulianToDay, bdGregorianToDay, bdDayToJulian, bdDayToGregorian};
+ghost use Rattle.face.specs.Face.{bdWeekday, bdJulianToDay, bdGregorianToDay, bdDayToJulian, bdDayToGregorian};
 
 #[no_mangle]
 pub extern "C" fn bd_weekday(day: u64) -> days::WeekdayAnswer

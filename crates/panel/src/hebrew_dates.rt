@@ -1,6 +1,6 @@
 // Hebrew dates.
 ghost use mathlib.Core.Path.{_≡_};
-ghost use Rattle.panel.specs.Face.{bdMonthLength, bdHebrewToDay, bdDayToHebrew};
+ghost use Rattle.face.specs.Face.{bdMonthLength, bdHebrewToDay, bdDayToHebrew};
 
 #[no_mangle]
 pub extern "C" fn bd_month_length(year: u64, month: u64) -> hebrew::MonthAnswer

@@ -1,6 +1,6 @@
 // The molad, its notice, and the years that it begins.
 ghost use mathlib.Core.Path.{_≡_};
-ghost use Rattle.panel.specs.Face.{bdMolad, bdNotice, bdNewYear, bdNewYearRhodes, bdYear, bdKind, bdYearOfDay};
+ghost use Rattle.face.specs.Face.{bdMolad, bdNotice, bdNewYear, bdNewYearRhodes, bdYear, bdKind, bdYearOfDay};
 
 #[no_mangle]
 pub extern "C" fn bd_molad(year: u64, month: u64) -> molad::MoladAnswer

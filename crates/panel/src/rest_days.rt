@@ -1,6 +1,6 @@
 // Rest days and stretches, of the wing that is named first. A lent buffer is as its owner's contract leaves it.
 ghost use mathlib.Core.Path.{_≡_};
-ghost use Rattle.panel.specs.Face.{bdStretch, bdRestDays, bdRestDaysLeaves, bdStretches, bdStretchesLeaves};
+ghost use Rattle.face.specs.Face.{bdStretch, bdRestDays, bdRestDaysLeaves, bdStretches, bdStretchesLeaves};
 
 #[no_mangle]
 pub extern "C" fn bd_stretch(wing: u64, day: u64) -> stretch::StretchAnswer

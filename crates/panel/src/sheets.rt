@@ -1,6 +1,6 @@
 // The sheet that the panels load, written and read back. The lent bytes are as their owner's contract leaves them.
 ghost use mathlib.Core.Path.{_≡_};
-ghost use Rattle.panel.specs.Face.{bdSheetWrite, bdSheetWriteLeaves, bdSheetRows, bdSheetsRows, bdWalkBegin, bdWalkNext};
+ghost use Rattle.face.specs.Face.{bdSheetWrite, bdSheetWriteLeaves, bdSheetRows, bdSheetsRows, bdWalkBegin, bdWalkNext};
 
 #[no_mangle]
 pub extern "C" fn bd_sheet_write(

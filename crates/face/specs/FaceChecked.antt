@@ -9,7 +9,7 @@ use lib.ListN.{length, take}
 use Rattle.rest.specs.Fixed.{fourteen}
 use Rattle.sheet.specs.Fixed.{sheetOf5775, guestSheet}
 use Rattle.accepted.specs.Fixed.{one, guest}
-use Rattle.panel.specs.Face.{bdWeekday, bdJulianToDay, bdGregorianToDay, bdDayToJulian, bdDayToGregorian, bdMonthLength, bdHebrewToDay, bdDayToHebrew, bdMolad, bdNotice, bdNewYear, bdNewYearRhodes, bdYear, bdKind, bdYearOfDay, bdStretch, bdRestDays, bdRestDaysLeaves, bdStretches, bdStretchesLeaves, bdSheetWrite, bdSheetWriteLeaves, bdSheetRows, bdSheetsRows, bdWalkBegin, bdWalkNext}
+use Rattle.face.specs.Face.{bdWeekday, bdJulianToDay, bdGregorianToDay, bdDayToJulian, bdDayToGregorian, bdMonthLength, bdHebrewToDay, bdDayToHebrew, bdMolad, bdNotice, bdNewYear, bdNewYearRhodes, bdYear, bdKind, bdYearOfDay, bdStretch, bdRestDays, bdRestDaysLeaves, bdStretches, bdStretchesLeaves, bdSheetWrite, bdSheetWriteLeaves, bdSheetRows, bdSheetsRows, bdWalkBegin, bdWalkNext}
 
 pub record FaceChecked : Type 0 where
   pub bd-weekday : (bdWeekday 2456928 ≡ record { refusal = 0; weekday = 7 }) × (bdWeekday 347997 ≡ record { refusal = 4; weekday = 0 })

@@ -11,7 +11,7 @@ use Rattle.stretch.proofs.Fixed.{words-fixed as stretch}
 use Rattle.stretches.proofs.Fixed.{words-fixed as stretches}
 use Rattle.sheet.proofs.Fixed.{words-fixed as sheets}
 use Rattle.loaded.proofs.Fixed.{words-fixed as loads}
-use Rattle.panel.specs.FaceChecked.{FaceChecked}
+use Rattle.face.specs.FaceChecked.{FaceChecked}
 
 pub face-checked : FaceChecked
 face-checked =

@@ -29,7 +29,7 @@ use Rattle.hebrew.specs.Steps.{yearDate}
 use Rattle.rest.specs.Wings.{tableOf}
 use Rattle.rest.specs.Steps.{restAt}
 use Rattle.stretch.specs.Steps.{nextAt, firstFor, pastFor}
-use Rattle.panel.specs.Checked.{BothRoutes, Holds, newYearDay, newYearWeekday, newYearJulian, molad, yearDays, AllHold, done, _and_, daysToCheck}
+use Rattle.face.specs.Checked.{BothRoutes, Holds, newYearDay, newYearWeekday, newYearJulian, molad, yearDays, AllHold, done, _and_, daysToCheck}
 
 both : (h : ℕ) → InNewYears h → (Says : NewYearAnswer → Type 0) → Says (quickAnswer h) → BothRoutes h Says
 both h y Says p = rw (same-answer h, answer-quick h y) ((refl, p), (refl, p))
