@@ -4,4 +4,5 @@ pub mod Placed
 pub mod RoundTrip
 pub mod Weekdays
 pub mod Walked
+pub mod Neighbours
 pub mod Fixed

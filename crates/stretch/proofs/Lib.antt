@@ -3,4 +3,5 @@ pub mod Answers
 pub mod Theorems
 pub mod Walk
 pub mod Year
+pub mod Neighbours
 pub mod Fixed

@@ -1,0 +1,4 @@
+pub mod Told
+pub mod Moves
+pub mod Answers
+pub mod Fixed

@@ -1,0 +1,5 @@
+pub mod Record
+pub mod Steps
+pub mod Answers
+pub mod Promises
+pub mod Fixed

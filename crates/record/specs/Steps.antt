@@ -1,0 +1,65 @@
+-- How a record is moved: from what it holds, as far as that goes. That a record worked out afresh comes to its neighbour's is
+-- proved. What a record tells is not taken on trust: a number that no record of a day has is worked out anew.
+use mathlib.Core.Bool.{Bool, _&&_, _||_, not, cond}
+use Prim.Native.Nat.{ℕ, _+_, _-_}
+use lib.Dec.{eqb, leb, ltb}
+use lib.IntN.{subℕ}
+use Rattle.laws.specs.Runs.{elem}
+use Rattle.days.specs.Range.{lastDay}
+use Rattle.days.specs.Weekday.{weekday}
+use Rattle.rest.specs.Table.{row}
+use Rattle.rest.specs.Wings.{tableOf}
+use Rattle.stretch.specs.Answers.{wingStretch}
+use Rattle.stretch.specs.declared.StretchAnswer.{StretchAnswer}
+use Rattle.record.specs.Record.{datedOf, joined}
+use Rattle.record.specs.declared.DayRecord.{DayRecord}
+use Rattle.record.specs.declared.Dated.{Dated}
+
+-- No month has fewer than 29 days: up to the 28th the next day is in the same month, and the year goes on.
+abbrev pub sameMonthOn : DayRecord → Bool
+sameMonthOn r = ltb (r .date) 29 && ltb 0 (r .remaining)
+
+unfoldable pub dateOn : DayRecord → Dated
+dateOn r =
+    cond (sameMonthOn r)
+    (record { year = r .year; month = r .month; date = r .date + 1; remaining = r .remaining - 1 })
+    (datedOf (r .day + 1))
+
+-- From the 2nd to the 30th the day before is in the same month. Codes go to 13, and a year has fewer than 400 days.
+abbrev pub sameMonthBack : DayRecord → Bool
+sameMonthBack r = ltb 1 (r .date) && (leb (r .date) 30 && (leb (r .month) 13 && ltb (r .remaining) 400))
+
+unfoldable pub dateBack : DayRecord → Dated
+dateBack r =
+    cond (sameMonthBack r)
+    (record { year = r .year; month = r .month; date = r .date - 1; remaining = r .remaining + 1 })
+    (datedOf (r .day - 1))
+
+-- The record has a stretch, which is not over on day j.
+unfoldable pub lasts : DayRecord → ℕ → Bool
+lasts r j = eqb (r .none) 0 && (leb (r .first) lastDay && (leb (r .length) 3 && ltb j (r .first + r .length)))
+
+-- It is kept for day j: days left alone are others.
+abbrev pub kept : DayRecord → ℕ → StretchAnswer
+kept r j = record { refusal = 0; first = r .first; length = r .length; «days_left» = subℕ (r .first) j }
+
+-- A day on it is kept until it is over.
+unfoldable pub stretchOnward : DayRecord → StretchAnswer
+stretchOnward r = let j = r .day + 1 in cond (lasts r j) (kept r j) (wingStretch (r .wing) j)
+
+-- Day j, of this date, is a rest day of the wing: a Saturday, or a row of its table.
+unfoldable pub rests : ℕ → ℕ → Dated → Bool
+rests wing j x = eqb (weekday j) 7 || elem (row (x .month) (x .date)) (tableOf wing)
+
+-- A day back it is kept if it has begun by then, or if that day is no rest day.
+abbrev pub keptBack : DayRecord → Dated → Bool
+keptBack r x = let j = r .day - 1 in lasts r j && (leb (r .first) j || not (rests (r .wing) j x))
+
+unfoldable pub stretchBackward : DayRecord → Dated → StretchAnswer
+stretchBackward r x = let j = r .day - 1 in cond (keptBack r x) (kept r j) (wingStretch (r .wing) j)
+
+unfoldable pub movedOn : DayRecord → DayRecord
+movedOn r = joined (r .wing) (r .day + 1) (dateOn r) (stretchOnward r)
+
+unfoldable pub movedBack : DayRecord → DayRecord
+movedBack r = joined (r .wing) (r .day - 1) (dateBack r) (stretchBackward r (dateBack r))
