@@ -46,10 +46,9 @@ module _ (wing j : ℕ) (w : IsWing wing) (i : InRange j) where
   told : (k : ℕ) → lasts r k ≡ true → StretchFor (tableOf wing) j (r .first) (r .length) × (k < r .first + r .length)
   unfolding lasts afresh
   told k e =
-      let z = unflagged (wingStretch wing j .refusal) (and-left (eqb (r .none) 0) _ e) in
-      let p = stretch-promised wing j in
-      let l = and-right (leb (r .length) 3) _ (and-right (leb (r .first) lastDay) _ (and-right (eqb (r .none) 0) _ e)) in
-      (p .values (p .done .0 z) .0, ltb-true _ _ l)
+      let sound = eqb (r .none) 0 && (leb (r .first) lastDay && leb (r .length) 3) in
+      let z = unflagged (wingStretch wing j .refusal) (and-left (eqb (r .none) 0) _ (and-left sound _ e)) in
+      let p = stretch-promised wing j in (p .values (p .done .0 z) .0, ltb-true _ _ (and-right sound _ e))
 
   date-moves-on : dateOn r ≡ datedOf (j + 1)
   unfolding dateOn datedOf afresh

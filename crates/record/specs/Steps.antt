@@ -37,7 +37,7 @@ dateBack r =
 
 -- The record has a stretch, which is not over on day j.
 unfoldable pub lasts : DayRecord → ℕ → Bool
-lasts r j = eqb (r .none) 0 && (leb (r .first) lastDay && (leb (r .length) 3 && ltb j (r .first + r .length)))
+lasts r j = (eqb (r .none) 0 && (leb (r .first) lastDay && leb (r .length) 3)) && ltb j (r .first + r .length)
 
 -- It is kept for day j: days left alone are others.
 abbrev pub kept : DayRecord → ℕ → StretchAnswer

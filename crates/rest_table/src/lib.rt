@@ -62,7 +62,7 @@ fn among(table: &[u64], row: u64) -> bool
 
 // Is there such a row in the wing's table? Wing 1's is searched first for either wing: what wing 1 keeps the guest wing
 // keeps too.
-fn kept(wing: u64, row: u64) -> bool
+pub fn kept(wing: u64, row: u64) -> bool
     ensures { λ r. ⌜ r ≡ elem row (tableOf wing) ⌝ }
 {
     let rest = REST_TABLE;

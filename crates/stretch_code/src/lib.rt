@@ -8,8 +8,8 @@ ghost use Prim.Native.Nat.{_≤_};
 ghost use lib.IntN.{subℕ};
 ghost use Rattle.stretch.specs.Answers.{noStretch, wingStretch};
 
-// First day minus the day asked, with its sign: the one place where a number of this crate can be below zero.
-fn days_left(first: u64, day: u64) -> i64
+// A step, for days near the range: first day minus the day asked, with its sign. Nowhere else can a number be below zero.
+pub fn days_left(first: u64, day: u64) -> i64
     requires { ⌜ (first ≤ 5000000) × (day ≤ 5000000) ⌝ }
     ensures { λ r. ⌜ r ≡ subℕ first day ⌝ }
 {

@@ -1,0 +1,66 @@
+use borrow.Author.Needs.{needs}
+use mathlib.Core.Path.{_≡_, sym, _∙_}
+use mathlib.Core.Bool.{false, _||_}
+use Prim.Native.Nat.{_+_, _<_, _^_}
+use native.Mathlib.Omega.{arith}
+use Rattle.days.specs.Range.{InRange, outOfRange}
+use Rattle.rest.specs.Wings.{outOfWings}
+use Rattle.record.specs.Steps.{movedOn}
+use Rattle.record.specs.Answers.{nextOf}
+use Rattle.record_code.proofs.Sound.{on-tested, on-within}
+use Rattle.record_code.proofs.next.Statement.{statement}
+use Rattle.record_code.proofs.next.Tie as tie
+
+-- The record's day and the day after it are in range.
+inside : (c : tie.Else1) → let r = c .before .before .before .args .r in InRange (r .day) × InRange (r .day + 1)
+inside c = on-within (c .before .before .before .args .r .day) (c .if1 .left)
+
+passed : (c : tie.Else1) → let r = c .before .before .before .args .r in outOfRange (r .day) || outOfRange (r .day + 1) ≡ false
+passed c = sym (on-tested (c .before .before .before .args .r .day)) ∙ c .if1 .left
+
+returns : tie.Need-returns
+unfolding nextOf
+returns c =
+    let t = c .before in
+    let r = t .before .before .before .args .r in rw (← on-tested (r .day), t .if1 .taken) (c .left .ensures)
+
+returns-2 : tie.Need-returns-2
+unfolding nextOf
+returns-2 c =
+    let t = c .before in
+    let w = t .before in rw (passed (w .before), ← w .out-of-wings .ensures, t .if2 .taken) (c .left2 .ensures)
+
+-- The record's wing is 1 or 2.
+named : (c : tie.Else2) → outOfWings (c .before .before .before .before .before .args .r .wing) ≡ false
+named c = sym (c .before .out-of-wings .ensures) ∙ c .if2 .left
+
+moved : (c : tie.After-joined) → c .joined .result ≡ movedOn (c .before .before .before .before .before .before .before .before .before .args .r)
+unfolding movedOn
+moved c =
+    let s = c .before in
+    let d = s .before .before in rw (← d .on .ensures, ← s .on2 .ensures) (c .joined .ensures)
+
+returns-3 : tie.Need-returns-3
+unfolding nextOf
+returns-3 c =
+    let j = c .before in
+    let w = j .before .before .before .before in rw (passed (w .before .before), named w, ← moved j) (c .left3 .ensures)
+
+pub next-spec : {M : Type 1} → statement M
+next-spec =
+    tie.close
+    (tie.spec
+    (search needs)
+    returns
+    (search needs)
+    (search needs)
+    returns-2
+    (λ c κs. inside (c .before .before))
+    (λ c.
+    let e = c .before .before .before .before in
+    let r = e .before .before .before .args .r in
+    let l : r .day + 1 < 2 ^ 64 = omega (arith, inside e) in record { fits = l })
+    (λ c κs. inside (c .before .before .before .before))
+    (search needs)
+    (search needs)
+    returns-3)

@@ -1,0 +1,46 @@
+use borrow.Author.Needs.{needs}
+use mathlib.Core.Path.{_≡_, sym, _∙_}
+use mathlib.Core.Bool.{false}
+use Rattle.days.proofs.InRange.{in-range}
+use Rattle.rest.specs.Wings.{outOfWings}
+use Rattle.record.specs.Record.{afresh}
+use Rattle.record.specs.Answers.{setTo}
+use Rattle.record_code.proofs.set.Statement.{statement}
+use Rattle.record_code.proofs.set.Tie as tie
+
+-- The wing is 1 or 2.
+named : (c : tie.Else1) → outOfWings (c .before .before .args .wing) ≡ false
+named c = sym (c .before .out-of-wings .ensures) ∙ c .if1 .left
+
+-- The day is worked out afresh.
+worked : (c : tie.After-joined) → let a = c .before .before .before .before .before .before .before .args in c .joined .result ≡ afresh (a .wing) (a .day)
+unfolding afresh
+worked c =
+    let s = c .before in
+    let d = s .before in rw (← d .dated .ensures .0, ← s .stretch .ensures) (c .joined .ensures)
+
+returns-3 : tie.Need-returns-3
+unfolding setTo
+returns-3 c =
+    let j = c .before in
+    let i = j .before .before .before in
+    let o = i .before in rw (named (o .before), ← o .out-of-range .ensures, i .if2 .left, ← worked j) (c .left3 .ensures)
+
+pub set-spec : {M : Type 1} → statement M
+unfolding setTo
+set-spec =
+    tie.close
+    (tie.spec
+    (search needs)
+    (search needs)
+    (λ c. let t = c .before in rw (← t .before .out-of-wings .ensures, t .if1 .taken) (c .left .ensures))
+    (search needs)
+    (search needs)
+    (λ c.
+    let t = c .before in
+    let r = t .before in rw (named (r .before), ← r .out-of-range .ensures, t .if2 .taken) (c .left2 .ensures))
+    (λ c κs. in-range _ (c .before .out-of-range .ensures) (c .if2 .left))
+    (search needs)
+    (search needs)
+    (search needs)
+    returns-3)

@@ -1,0 +1,81 @@
+// The code that keeps a panel's day record. Each call is by value: a record comes in, and goes out as the call leaves it, with
+// the refusal number. `panel` lends the record.
+//
+// Set, a day is worked out afresh. Moved, most of it stays: the date goes on within its month, and the stretch is kept while
+// it answers for the day. What does not stay is worked out afresh. A record that none of these calls made may hold any
+// numbers; what is taken from it is looked at first.
+mod dates;
+mod stretches;
+
+ghost use mathlib.Core.Path.{_≡_};
+ghost use Rattle.record.specs.Record.{joined as Record·joined};
+ghost use Rattle.record.specs.Answers.{left as Answers·left, setTo, nextOf, backOf};
+use record::Dated;
+use record::DayRecord;
+use record::Moved;
+use stretch::StretchAnswer;
+
+fn left(refusal: u64, after: DayRecord) -> Moved
+    ensures { λ m. ⌜ m ≡ Answers·left refusal after ⌝ }
+{
+    Moved { refusal, after }
+}
+
+fn joined(wing: u64, day: u64, x: Dated, s: StretchAnswer) -> DayRecord
+    ensures { λ r. ⌜ r ≡ Record·joined wing day x s ⌝ }
+{
+    DayRecord {
+        day,
+        wing,
+        year: x.year,
+        month: x.month,
+        date: x.date,
+        first: s.first,
+        length: s.length,
+        days_left: s.days_left,
+        none: laws::pick(s.refusal == 0, 0, 1),
+        remaining: x.remaining,
+    }
+}
+
+// Refusal 15 for a wing that is neither 1 nor 2; 4 for a day outside the range.
+pub fn set(r: DayRecord, wing: u64, day: u64) -> Moved
+    ensures { λ m. ⌜ m ≡ setTo r wing day ⌝ }
+{
+    if rest_table::out_of_wings(wing) {
+        return left(15, r);
+    }
+    if days::out_of_range(day) {
+        return left(4, r);
+    }
+    let x = dates::dated(day);
+    left(0, joined(wing, day, x, stretch_code::stretch(wing, day)))
+}
+
+// Refusal 4 for a record whose day is outside the range or its last; 15 for one that none of these calls made, of no wing.
+pub fn next(r: DayRecord) -> Moved
+    ensures { λ m. ⌜ m ≡ nextOf r ⌝ }
+{
+    if (r.day < days::FIRST_DAY) | (days::LAST_DAY <= r.day) {
+        return left(4, r);
+    }
+    if rest_table::out_of_wings(r.wing) {
+        return left(15, r);
+    }
+    let x = dates::on(r);
+    left(0, joined(r.wing, r.day + 1, x, stretches::on(r)))
+}
+
+// Refusals as above, with the range's first day for its last.
+pub fn back(r: DayRecord) -> Moved
+    ensures { λ m. ⌜ m ≡ backOf r ⌝ }
+{
+    if (r.day <= days::FIRST_DAY) | (days::LAST_DAY < r.day) {
+        return left(4, r);
+    }
+    if rest_table::out_of_wings(r.wing) {
+        return left(15, r);
+    }
+    let x = dates::back(r);
+    left(0, joined(r.wing, r.day - 1, x, stretches::back(r, x)))
+}
