@@ -28,6 +28,9 @@ use Rattle.rest.specs.declared.ListAnswer.{ListAnswer}
 use Rattle.stretch.specs.Answers.{wingStretch}
 use Rattle.stretches.specs.Answers.{wingStretches, wingStretchesBuffer}
 use Rattle.stretch.specs.declared.StretchAnswer.{StretchAnswer}
+use Rattle.record.specs.Answers.{setTo, nextOf, backOf}
+use Rattle.record.specs.declared.DayRecord.{DayRecord}
+use Rattle.record.specs.declared.Moved.{Moved}
 use Rattle.sheet.specs.Answers.{wingSheet, wingSheetBuffer}
 use Rattle.loaded.specs.Rows.{rowsAnswer, namedAnswer}
 use Rattle.loaded.specs.Walk.{begunAt, stepAt}
@@ -83,6 +86,16 @@ bdYearOfDay day = yearOfDayAnswer day
 
 abbrev pub bdStretch : ℕ → ℕ → StretchAnswer
 bdStretch wing day = wingStretch wing day
+
+-- The refusal, and the record as it is left.
+abbrev pub bdRecordSet : DayRecord → ℕ → ℕ → Moved
+bdRecordSet r wing day = setTo r wing day
+
+abbrev pub bdRecordNext : DayRecord → Moved
+bdRecordNext r = nextOf r
+
+abbrev pub bdRecordBack : DayRecord → Moved
+bdRecordBack r = backOf r
 
 abbrev pub bdRestDays : ℕ → ℕ → List ℕ → ListAnswer
 bdRestDays wing year out = wingRestDays wing year out

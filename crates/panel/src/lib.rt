@@ -8,6 +8,7 @@
 mod civil_dates;
 mod hebrew_dates;
 mod new_years;
+mod records;
 mod rest_days;
 mod sheets;
 
@@ -26,6 +27,9 @@ pub use new_years::bd_new_year_rhodes;
 pub use new_years::bd_notice;
 pub use new_years::bd_year;
 pub use new_years::bd_year_of_day;
+pub use records::bd_record_back;
+pub use records::bd_record_next;
+pub use records::bd_record_set;
 pub use rest_days::bd_rest_days;
 pub use rest_days::bd_stretch;
 pub use rest_days::bd_stretches;
