@@ -3,9 +3,10 @@
  *
  * Every call is a question with one answer. An answer is a struct whose first number is the refusal: BD_DONE (0), or
  * why there is no answer. Every other number of a refused answer is 0, but that BD_BUFFER_TOO_SHORT also tells how many
- * entries or bytes are wanted. Two calls answer otherwise: bd_walk_begin with the refusal alone, and bd_walk_next with
- * a row or "no more". No call keeps anything, waits, allocates or stops the program; where a walk stands is kept in the
- * caller's own walker. Any number and any bytes may be asked, and calls may be made from several threads at once.
+ * entries or bytes are wanted. Five calls answer otherwise: bd_record_set, bd_record_next, bd_record_back and bd_walk_begin
+ * with the refusal alone, and bd_walk_next with a row or "no more". No call keeps anything, waits, allocates or stops the
+ * program; a day's record is the caller's own, and so is the walker in which it is kept where a walk stands. Any number and
+ * any bytes may be asked, and calls may be made from several threads at once.
  *
  * A day is a Julian Day Number. A Hebrew day has the number of the civil day that holds its daylight; it begins the
  * evening before, for the calendar's arithmetic at 18:00. Civil years are signed and there is a year 0: 3761 BCE is
@@ -45,8 +46,8 @@
  * was built with an earlier minor version builds and is answered as it was. A minor version adds.
  */
 #define BD_VERSION_MAJOR 5
-#define BD_VERSION_MINOR 0
-#define BD_VERSION "5.0"
+#define BD_VERSION_MINOR 1
+#define BD_VERSION "5.1"
 
 #ifdef __cplusplus
 extern "C" {
@@ -334,6 +335,49 @@ bd_list_answer bd_rest_days(uint64_t wing, uint64_t year, uint64_t *out, size_t 
  * the list stay as they were. The call keeps 120 entries of its own, 960 bytes, on the stack.
  */
 bd_list_answer bd_stretches(uint64_t wing, uint64_t year, uint64_t *out, size_t length);
+
+/* ---- The panel's day record ---- */
+
+/*
+ * What a panel keeps of a day, so that it need not work out the whole day at every key press. A new record is all
+ * zeros. It is set to a day of a wing, and then moved a day on or a day back:
+ *
+ *     bd_record record = {0};
+ *     if (bd_record_set(&record, BD_WING_1, day) != BD_DONE) return;  // or say why
+ *     if (bd_record_next(&record) == BD_DONE) show(&record);  // else it stands on the last day of the range
+ *
+ * After any such calls on a new record it is either still new or tells of its day and wing what bd_day_to_hebrew and
+ * bd_stretch tell. A refused call alters nothing. Look at `none` before the three numbers above it: on the last four days of
+ * the range no stretch is left, and they are 0, as days left are on the first day of a stretch.
+ *
+ * The numbers are the panel's to read and these calls' to write. A record that was changed by hand, or kept where it may be
+ * spoilt, is safe and each call ends, but it may then be moved to something that is not so: set it again.
+ */
+typedef struct bd_record {
+    uint64_t day; /* day number; 0 in a new record alone */
+    uint64_t wing; /* 1 or 2 */
+    uint64_t year; /* Hebrew year */
+    uint64_t month; /* month code */
+    uint64_t date; /* day of the month */
+    uint64_t first; /* day number of the stretch's first day, as in bd_stretch_answer */
+    uint64_t length; /* of the stretch: 1, 2 or 3 days */
+    int64_t days_left; /* -2..6, and 0 or less on a day of the stretch */
+    uint64_t none; /* 1: no stretch is left, and the three above are 0; else 0 */
+    uint64_t remaining; /* days of the year after the day: 0 on 29 Elul */
+} bd_record;
+
+/* Sets a record to a day, and to the wing that it keeps when it is moved. Refusals, told as the number alone: 15, 4. */
+uint64_t bd_record_set(bd_record *record, uint64_t wing, uint64_t day);
+
+/*
+ * Moves a record to the next day. Most days this takes a small part of what setting it takes. Refusal, told as the number
+ * alone: 4 on the last day of the range, or if the record's day is outside it, as a new one's is. (15 if its day is in
+ * range and its wing neither 1 nor 2, as no record's is that was set.)
+ */
+uint64_t bd_record_next(bd_record *record);
+
+/* Moves a record to the day before. Refusal: 4 on the first day of the range; else as bd_record_next. */
+uint64_t bd_record_back(bd_record *record);
 
 /* ---- Sheets ---- */
 

@@ -8,6 +8,7 @@ use Rattle.rhodes.proofs.Fixed.{words-fixed as routes}
 use Rattle.hebrew.proofs.Fixed.{words-fixed as hebrew-dates}
 use Rattle.rest.proofs.Fixed.{words-fixed as rests}
 use Rattle.stretch.proofs.Fixed.{words-fixed as stretch}
+use Rattle.record.proofs.Fixed.{words-fixed as records}
 use Rattle.stretches.proofs.Fixed.{words-fixed as stretches}
 use Rattle.sheet.proofs.Fixed.{words-fixed as sheets}
 use Rattle.loaded.proofs.Fixed.{words-fixed as loads}
@@ -32,6 +33,9 @@ face-checked =
       bd-kind = (years .kinds .5, years .no-years .0 .1);
       bd-year-of-day = (years .held .2, years .not-held .1);
       bd-stretch = (stretch .second-days .1, stretch .second-days .0, stretch .no-wing .1);
+      bd-record-set = (records .both-wings .1, records .no-wing .1);
+      bd-record-next = (records .moved .1, records .no-move .2);
+      bd-record-back = (records .moved-back .1, records .no-move .3);
       bd-rest-days = (rests .guest-wing .0, rests .guest-wing .1, rests .no-wing .1 .0, rests .no-wing .1 .1);
       bd-stretches = (stretches .guest-wing, stretches .short .1 .0);
       bd-sheet-write = (sheets .guest-wing, sheets .no-years .3 .0);
