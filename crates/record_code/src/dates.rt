@@ -2,17 +2,19 @@
 ghost use mathlib.Core.Path.{_≡_};
 ghost use Prim.Native.Nat.{_+_, _-_, _≤_};
 ghost use Rattle.days.specs.Range.{InRange};
+ghost use Rattle.newyear.specs.NewYear.{yearOf};
+ghost use Rattle.newyear_code.specs.Spans.{Spans};
 ghost use Rattle.record.specs.Record.{datedOf};
 ghost use Rattle.record.specs.Steps.{dateOn, dateBack};
+use newyear_code::Span;
 use record::Dated;
 use record::DayRecord;
 
-// A step, for the days of the range: worked out afresh.
-pub fn dated(day: u64) -> Dated
-    requires { ⌜ InRange day ⌝ }
+// A step, for a day in range and the span of its year.
+pub fn dated_in(day: u64, span: Span) -> Dated
+    requires { ⌜ (InRange day) × (Spans (yearOf day) span) ⌝ }
     ensures { λ x. ⌜ (x ≡ datedOf day) × ((x .month ≤ 13) × (x .date ≤ 400)) ⌝ }
 {
-    let span = newyear_code::year_holding(day);
     let date = hebrew_months::date_after(span.length, day - span.new_year);
     Dated {
         year: span.year,
@@ -20,6 +22,14 @@ pub fn dated(day: u64) -> Dated
         date: date.day,
         remaining: span.new_year + span.length - 1 - day,
     }
+}
+
+// A step, for the days of the range.
+fn dated(day: u64) -> Dated
+    requires { ⌜ InRange day ⌝ }
+    ensures { λ x. ⌜ (x ≡ datedOf day) × ((x .month ≤ 13) × (x .date ≤ 400)) ⌝ }
+{
+    dated_in(day, newyear_code::year_holding(day))
 }
 
 // A step, where the next day is in range too: a day on.

@@ -48,8 +48,12 @@ pub fn set(r: DayRecord, wing: u64, day: u64) -> Moved
     if days::out_of_range(day) {
         return left(4, r);
     }
-    let x = dates::dated(day);
-    left(0, joined(wing, day, x, stretch_code::stretch(wing, day)))
+    let span = newyear_code::year_holding(day);
+    let x = dates::dated_in(day, span);
+    left(
+        0,
+        joined(wing, day, x, stretch_code::stretch_in(wing, day, span)),
+    )
 }
 
 // Refusal 4 for a record whose day is outside the range or its last; 15 for one that none of these calls made, of no wing.

@@ -3,7 +3,7 @@ ghost use mathlib.Core.Path.{_≡_};
 ghost use mathlib.Core.Bool.{true};
 ghost use Prim.Native.Nat.{_+_, _-_, _≤_};
 ghost use Rattle.days.specs.Range.{InRange};
-ghost use Rattle.record.specs.Steps.{lasts as Steps·lasts, kept as Steps·kept, rests as Steps·rests, stretchOnward, stretchBackward};
+ghost use Rattle.record.specs.Steps.{lasts as Steps·lasts, kept as Steps·kept, rests as Steps·rests, stretchOnward, keptBack, stretchBackward};
 use record::Dated;
 use record::DayRecord;
 use stretch::StretchAnswer;
@@ -54,20 +54,30 @@ fn rests(wing: u64, day: u64, x: Dated) -> bool
     rest_table::kept(wing, 100 * x.month + x.date)
 }
 
-// A step, where the day before is in range too: a day back, to a day of this date.
+// A step, where the day before is in range too, and for its date: is the stretch kept a day back? It is not if that day is
+// the last of another.
+fn kept_back(r: DayRecord, x: Dated) -> bool
+    requires { ⌜ ((InRange (r .day)) × (InRange (r .day - 1))) × ((x .month ≤ 13) × (x .date ≤ 400)) ⌝ }
+    ensures { λ b. ⌜ b ≡ keptBack r x ⌝ }
+{
+    let day = r.day - 1;
+    if !lasts(r, day) {
+        return false;
+    }
+    if r.first <= day {
+        return true;
+    }
+    !rests(r.wing, day, x)
+}
+
+// A step, as above: a day back, to a day of this date.
 pub fn back(r: DayRecord, x: Dated) -> StretchAnswer
     requires { ⌜ ((InRange (r .day)) × (InRange (r .day - 1))) × ((x .month ≤ 13) × (x .date ≤ 400)) ⌝ }
     ensures { λ s. ⌜ s ≡ stretchBackward r x ⌝ }
 {
     let day = r.day - 1;
-    if !lasts(r, day) {
-        return stretch_code::stretch(r.wing, day);
-    }
-    if r.first <= day {
+    if kept_back(r, x) {
         return kept(r, day);
     }
-    if rests(r.wing, day, x) {
-        return stretch_code::stretch(r.wing, day);
-    }
-    kept(r, day)
+    stretch_code::stretch(r.wing, day)
 }

@@ -2,11 +2,16 @@
 // of one year: it walks through their dates from one to the next and asks each whether it is a rest day.
 mod runs;
 
+use newyear_code::Span;
 use stretch::StretchAnswer;
 ghost use mathlib.Core.Path.{_≡_};
 ghost use Prim.Native.Nat.{_≤_};
 ghost use lib.IntN.{subℕ};
-ghost use Rattle.stretch.specs.Answers.{noStretch, wingStretch};
+ghost use Rattle.days.specs.Range.{InRange};
+ghost use Rattle.newyear.specs.NewYear.{yearOf};
+ghost use Rattle.newyear_code.specs.Spans.{Spans};
+ghost use Rattle.rest.specs.Wings.{tableOf};
+ghost use Rattle.stretch.specs.Answers.{noStretch, stretchAnswer, wingStretch};
 
 // A step, for days near the range: first day minus the day asked, with its sign. Nowhere else can a number be below zero.
 pub fn days_left(first: u64, day: u64) -> i64
@@ -27,18 +32,12 @@ fn refused(number: u64) -> StretchAnswer
     }
 }
 
-// Refusal 15 for a wing that is neither 1 nor 2; 4 for a day outside the range; 9 where no stretch in range ends on or
-// after the day.
-pub fn stretch(wing: u64, day: u64) -> StretchAnswer
-    ensures { λ r. ⌜ r ≡ wingStretch wing day ⌝ }
+// A step, for a day in range and the span of its year. The caller has seen that it is a wing. Refusal 9 where no stretch in
+// range ends on or after the day.
+pub fn stretch_in(wing: u64, day: u64, span: Span) -> StretchAnswer
+    requires { ⌜ (InRange day) × (Spans (yearOf day) span) ⌝ }
+    ensures { λ r. ⌜ r ≡ stretchAnswer (tableOf wing) day ⌝ }
 {
-    if rest_table::out_of_wings(wing) {
-        return refused(15);
-    }
-    if days::out_of_range(day) {
-        return refused(4);
-    }
-    let span = newyear_code::year_holding(day);
     let weekday = days::weekday_of(span.new_year);
     let run = runs::run_for(wing, weekday, span.length, day - span.new_year);
     let first = span.new_year + run.first;
@@ -51,4 +50,18 @@ pub fn stretch(wing: u64, day: u64) -> StretchAnswer
         length: run.past - run.first,
         days_left: days_left(first, day),
     }
+}
+
+// Refusal 15 for a wing that is neither 1 nor 2; 4 for a day outside the range; 9 where no stretch in range ends on or
+// after the day.
+pub fn stretch(wing: u64, day: u64) -> StretchAnswer
+    ensures { λ r. ⌜ r ≡ wingStretch wing day ⌝ }
+{
+    if rest_table::out_of_wings(wing) {
+        return refused(15);
+    }
+    if days::out_of_range(day) {
+        return refused(4);
+    }
+    stretch_in(wing, day, newyear_code::year_holding(day))
 }
