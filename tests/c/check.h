@@ -33,6 +33,7 @@ void hebrew_dates(void);
 void rest_days(void);
 void every_year(void);
 void every_day(void);
+void records(void);
 void sheets(void);
 void loaded(void);
 void no_sheets(void);

@@ -1,8 +1,11 @@
 /*
  * Every day of the range against a walk of this file's own: three calendars turned over day by day, a weekday counted
  * round the seven, and each wing's runs of rest days as they come. The dates and stretches of a year are held against
- * those of the first year of its kind too.
+ * those of the first year of its kind too. A record of each wing is moved on from the first day to the last, and from each
+ * day back to the one before.
  */
+#include <string.h>
+
 #include "check.h"
 
 #include "walk.h"
@@ -146,6 +149,31 @@ static void list_of_kind(uint64_t wing, uint64_t year, const uint64_t *list, uin
     }
 }
 
+/* A wing's record, moved on to a day, tells its date. */
+static void record_date(uint64_t wing, uint64_t day, const hebrew *h)
+{
+    static bd_record records[WINGS + 1];
+    bd_record *r = &records[wing];
+    uint64_t refusal = day == FIRST ? bd_record_set(r, wing, day) : bd_record_next(r);
+    same("refusal of the record", refusal, BD_DONE), same("day of the record", r->day, day);
+    same("wing of the record", r->wing, wing), same("year of the record", r->year, h->year);
+    same("month of the record", r->month, h->month), same("date of the record", r->date, h->day);
+    same("days remaining", r->remaining, new_year_of(h->year) + h->length - 1 - day);
+}
+
+/* A record that stands on its day tells the stretch, or none; it is moved on, and from there back to what it was. */
+static void record_stretch(bd_record *r, uint64_t first, uint64_t length, int64_t days_left, uint64_t none)
+{
+    bd_record was = *r;
+    same("first of the record", r->first, first), same("length of the record", r->length, length);
+    same_signed("days left of the record", r->days_left, days_left), same("flag of the record", r->none, none);
+    same("refusal of the record", bd_record_next(r), was.day < LAST ? BD_DONE : BD_DAY_OUT_OF_RANGE);
+    if (was.day == LAST) return;
+    bd_record back = *r;
+    same("refusal of the record moved back", bd_record_back(&back), BD_DONE);
+    same("moved back it differs", memcmp(&back, &was, sizeof back) != 0, 0);
+}
+
 uint64_t find_stretches(uint64_t wing, uint64_t year, uint64_t list[2 * MOST_DAYS])
 {
     uint64_t n = 0;
@@ -179,12 +207,14 @@ static uint64_t year_lists(uint64_t wing, uint64_t year)
 static void stretches(uint64_t wing, uint64_t most)
 {
     uint64_t first, day = FIRST, found = 0;
+    bd_record record = {0};
     for (uint64_t year = 1; year <= YEARS; ++year) {
         uint64_t n = year_lists(wing, year);
         if (n > found) found = n;
     }
     asking("the stretches of any year in wing %" PRIu64, wing);
     same("the most entries", found, most);
+    same("refusal of the record", bd_record_set(&record, wing, FIRST), BD_DONE);
     for (first = FIRST; first <= LAST; ++first) {
         uint64_t past = first;
         while (rests[wing][past - FIRST]) ++past;
@@ -194,12 +224,14 @@ static void stretches(uint64_t wing, uint64_t most)
             asking("bd_stretch(%" PRIu64 ", %" PRIu64 ")", wing, day);
             same("refusal", got.refusal, 0), same("first", got.first, first), same("length", got.length, past - first);
             same_signed("days_left", got.days_left, (int64_t)first - (int64_t)day);
+            record_stretch(&record, first, past - first, (int64_t)first - (int64_t)day, 0);
         }
         first = past;
     }
     for (; day <= LAST; ++day) {
         asking("bd_stretch(%" PRIu64 ", %" PRIu64 ")", wing, day);
         same("refusal", bd_stretch(wing, day).refusal, BD_NO_STRETCH);
+        record_stretch(&record, 0, 0, 0, 1);
     }
 }
 
@@ -208,7 +240,7 @@ void every_day(void)
     civil julian = {-3760, 10, 7, 0}, gregorian = {-3760, 9, 7, 1};
     hebrew h = {1, 1, 1, year_length(1)};
     uint64_t weekday = BD_MONDAY;
-    begin("every day in three calendars, every rest day and stretch of both wings");
+    begin("every day in three calendars, every rest day, stretch and record of both wings");
     for (uint64_t day = FIRST; day <= LAST; ++day) {
         asking("day %" PRIu64, day);
         same("weekday", bd_weekday(day).weekday, weekday);
@@ -219,6 +251,7 @@ void every_day(void)
         for (uint64_t wing = 1; wing <= WINGS; ++wing) {
             rests[wing][day - FIRST] = weekday == BD_SATURDAY || from <= wing;
             note(wing, day, &h, from <= wing);
+            record_date(wing, day, &h);
         }
         weekday = weekday == 7 ? 1 : weekday + 1;
         turn_civil(&julian), turn_civil(&gregorian), turn_hebrew(&h);

@@ -4,8 +4,8 @@
  * The calling convention of x86-64 gives a struct of more than two words back through a pointer that comes before the
  * arguments. So the archive can be called with a plain array of words for the answer, with guard words around it, whatever
  * the header says: the words that it writes are the struct's true size and order. A struct of two words comes back in two
- * registers, and its words are those that the header's own call gives. A walker is the caller's own, and the archive is
- * given a word for it with guard words around it.
+ * registers, and its words are those that the header's own call gives. A walker and a record are the caller's own, and the
+ * archive is given words for them with guard words around them.
  *
  * Each question is one whose numbers all differ, so that exchanged fields show.
  */
@@ -13,7 +13,7 @@
 
 #include "raw.h"
 
-enum { AROUND = 8, MOST = 8 };
+enum { AROUND = 8, MOST = 10 };
 
 static uint64_t room[AROUND + MOST + AROUND];
 
@@ -139,6 +139,22 @@ static void sheet_structs(void)
     AT(bd_walker, row, 0);
 }
 
+/* Three days of the guest wing, 15 to 17 Tishri 5775, and the last day. */
+static void record_struct(void)
+{
+    same("refusal of a record set", raw_record_set(fresh(), BD_GUEST_WING, 2456942), 0);
+    WORDS(bd_record, 2456942, 2, 5775, 1, 17, 2456940, 3, (uint64_t)INT64_C(-2), 0, 337);
+    same("refusal of a record moved back", raw_record_back(room + AROUND), 0);
+    WORDS(bd_record, 2456941, 2, 5775, 1, 16, 2456940, 3, (uint64_t)INT64_C(-1), 0, 338);
+    same("refusal of a record moved on", raw_record_next(room + AROUND), 0);
+    WORDS(bd_record, 2456942, 2, 5775, 1, 17, 2456940, 3, (uint64_t)INT64_C(-2), 0, 337);
+    same("refusal of the last day", raw_record_set(room + AROUND, BD_WING_1, BD_LAST_DAY), 0);
+    WORDS(bd_record, BD_LAST_DAY, 1, 9999, 13, 29, 0, 0, 0, 1, 0);
+    AT(bd_record, day, 0), AT(bd_record, wing, 1), AT(bd_record, year, 2), AT(bd_record, month, 3), AT(bd_record, date, 4);
+    AT(bd_record, first, 5), AT(bd_record, length, 6), AT(bd_record, days_left, 7), AT(bd_record, none, 8);
+    AT(bd_record, remaining, 9);
+}
+
 /* The header's own call. */
 #define PAIR(type, field, call, number) \
     do { \
@@ -155,6 +171,7 @@ void layout(void)
     begin("sizes and offsets");
     large_structs();
     sheet_structs();
+    record_struct();
     AT(bd_civil_date, refusal, 0), AT(bd_molad_answer, refusal, 0), AT(bd_notice_answer, refusal, 0);
     AT(bd_new_year_answer, refusal, 0), AT(bd_year_answer, refusal, 0), AT(bd_kind_answer, refusal, 0);
     AT(bd_hebrew_date, refusal, 0), AT(bd_stretch_answer, refusal, 0), AT(bd_rows_answer, refusal, 0);

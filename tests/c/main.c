@@ -67,6 +67,7 @@ int main(void)
     rest_days();
     every_year();
     every_day();
+    records();
     sheets();
     loaded();
     no_sheets();
