@@ -59,6 +59,21 @@ struct Stretch {
 }
 
 #[repr(C)]
+#[derive(Clone, Copy, Debug, Default, PartialEq)]
+struct Record {
+    day: u64,
+    wing: u64,
+    year: u64,
+    month: u64,
+    date: u64,
+    first: u64,
+    length: u64,
+    days_left: i64,
+    none: u64,
+    remaining: u64,
+}
+
+#[repr(C)]
 struct Rows {
     refusal: u64,
     offset: u64,
@@ -87,6 +102,9 @@ extern "C" {
     fn bd_hebrew_to_day(year: u64, month: u64, day: u64) -> Pair;
     fn bd_month_length(year: u64, month: u64) -> Pair;
     fn bd_stretch(wing: u64, day: u64) -> Stretch;
+    fn bd_record_set(record: *mut Record, wing: u64, day: u64) -> u64;
+    fn bd_record_next(record: *mut Record) -> u64;
+    fn bd_record_back(record: *mut Record) -> u64;
     fn bd_stretches(wing: u64, year: u64, out: *mut u64, length: usize) -> Pair;
     fn bd_sheet_write(wing: u64, first_year: u64, years: u64, out: *mut u8, length: usize) -> Pair;
     fn bd_sheet_rows(wing: u64, sheet: *const u8, length: usize, year: u64) -> Rows;
@@ -302,6 +320,63 @@ fn stretches(wing: u64, year: u64, new_year: u64, rest: &[(u64, u64)]) -> Vec<(u
     runs
 }
 
+/// What a wing's record tells on each day of a year, of which `ahead` are the stretches and the first of the next year.
+fn records_of(wing: u64, year: u64, new_year: u64, length: u64, ahead: &[(u64, u64)]) -> Vec<Record> {
+    let dates = months(year, length).into_iter().flat_map(|(month, days)| (1..=days).map(move |date| (month, date)));
+    let tell = |(day, (month, date)): (u64, (u64, u64))| {
+        let remaining = new_year + length - 1 - day;
+        let told = Record { day, wing, year, month, date, remaining, ..Record::default() };
+        match ahead.iter().find(|&&(first, length)| day < first + length) {
+            Some(&(first, length)) => Record { first, length, days_left: first as i64 - day as i64, ..told },
+            None => Record { none: 1, ..told },
+        }
+    };
+    (new_year..).zip(dates).map(tell).collect()
+}
+
+/// A wing's record, set to the first day and moved on to the last; from each year's end back to its beginning; and refused
+/// at both ends and for bad numbers, which alters nothing. Returns how many moves were made.
+fn records(wing: u64, told: &[(u64, Vec<(u64, u64)>)]) -> u64 {
+    let mut record = Record::default();
+    let (mut day, mut moves) = (FIRST_DAY, 0);
+    let refused = |record: &Record, refusal: u64, call: &dyn Fn(*mut Record) -> u64| {
+        let mut lent = *record;
+        assert_eq!((call(&mut lent), lent), (refusal, *record), "a record that is refused");
+    };
+    refused(&record, 4, &|r| unsafe { bd_record_next(r) });
+    refused(&record, 4, &|r| unsafe { bd_record_back(r) });
+    assert_eq!(unsafe { bd_record_set(&mut record, wing, day) }, 0, "a record set to {day}, wing {wing}");
+    refused(&record, 4, &|r| unsafe { bd_record_back(r) });
+    for (year, (length, runs)) in (1u64..).zip(told) {
+        let next = told.get(year as usize).map(|(_, runs)| runs[0]);
+        let ahead: Vec<(u64, u64)> = runs.iter().copied().chain(next).collect();
+        let want = records_of(wing, year, day, *length, &ahead);
+        for (i, want) in want.iter().enumerate() {
+            if year > 1 || i > 0 {
+                assert_eq!(unsafe { bd_record_next(&mut record) }, 0, "a record moved on to {}", want.day);
+            }
+            assert_eq!(record, *want, "a record moved on");
+        }
+        let mut back = record;
+        for want in want.iter().rev().skip(1) {
+            assert_eq!(unsafe { bd_record_back(&mut back) }, 0, "a record moved back to {}", want.day);
+            assert_eq!(back, *want, "a record moved back");
+        }
+        day += length;
+        moves += 2 * (length - 1) + 1;
+    }
+    refused(&record, 4, &|r| unsafe { bd_record_next(r) });
+    for record in [Record::default(), record] {
+        for day in [0, FIRST_DAY - 1, 4_000_076, u64::MAX] {
+            refused(&record, 4, &|r| unsafe { bd_record_set(r, wing, day) });
+            for no_wing in [0, 3, 1 << 32 | wing, u64::MAX] {
+                refused(&record, 15, &|r| unsafe { bd_record_set(r, no_wing, day) });
+            }
+        }
+    }
+    moves - 1
+}
+
 /// A wing's sheet, byte by byte, of years that are told as length and stretches; returns its bytes.
 fn sheet(wing: u64, first_year: u64, years: &[(u64, Vec<(u64, u64)>)]) -> Vec<u8> {
     let count = years.len() as u64;
@@ -469,6 +544,8 @@ fn main() {
     }
     bad_wings();
     println!("Rust calls: Hebrew dates, months and both wings' stretches: {days} days");
+    let moves: u64 = (1u64..).zip(&told).map(|(wing, told)| records(wing, told)).sum();
+    println!("Rust calls: both wings' records on every day: {moves} moves");
     let (mut bytes, mut read) = (0, 0);
     for (wing, told) in (1u64..).zip(&told) {
         for (first_year, years) in [(5787, &told[5786..][..20]), (9900, &told[9899..])] {
