@@ -5,7 +5,7 @@
 help:
 	@sed -n 's/^    \(make .*\)/\1/p' README.md
 
-# What is typed for YEAR, MONTH, WING, FIRST, YEARS, DATE, TIME and SUNSET is text. It goes to the programs by the
+# What is typed for YEAR, MONTH, WING, FIRST, YEARS, DATE, TIME, SUNSET and KEYS is text. It goes to the programs by the
 # environment, and neither make nor a shell reads a command in it. Blanks around it are dropped: make itself drops those
 # before it.
 define text
@@ -14,7 +14,7 @@ override $(1) := $$(strip $$(value $(1)))
 export $(1)
 endif
 endef
-$(foreach name,YEAR MONTH WING FIRST YEARS DATE TIME SUNSET,$(eval $(call text,$(name))))
+$(foreach name,YEAR MONTH WING FIRST YEARS DATE TIME SUNSET KEYS,$(eval $(call text,$(name))))
 
 # Without a YEAR, the year that it is now.
 year:
@@ -35,7 +35,7 @@ sheet-show:
 
 # Without a WING, wing 1; without a DATE, today. CC names another compiler, for x86-64 Linux.
 panel:
-	@examples/run panel "$${WING-1}" "$${DATE-today}" "$${TIME-}" "$${SUNSET-}"
+	@examples/run panel "$${WING-1}" "$${DATE-today}" "$${TIME-}" "$${SUNSET-}" "$${KEYS-}"
 
 # The file whose lines are asked; without a FILE, what is typed.
 ask:

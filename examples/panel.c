@@ -1,16 +1,20 @@
 /*
  * A battery room's panel, to start from: for a wing, a civil date, a time and the hall's sunset it shows the Hebrew
- * day, whether the bank carries the load, and the days left to the first day of the wing's stretch of rest days.
+ * day, whether the bank carries the load, and the days left to the first day of the wing's stretch of rest days. Then
+ * keys may be pressed: + and - show the days after and before it.
  *
  *     panel 1 2014-09-24 20:00 18:52
+ *     panel 1 2014-09-24 20:00 18:52 +++-
  *     panel 2 today
  *
+ * The panel keeps one record of a day. It is set once, and moved by a day at sunset and at each key.
+ *
  * A Hebrew day begins in the evening. The library knows no sunset, so the panel sees to it: before the hall's sunset it
- * asks for the civil day, and from sunset on for the day after.
+ * shows the civil day, and from sunset on the day after.
  *
  * The days left have a sign, and they decide: on the second and third day of a stretch they are -1 and -2, and the bank
- * stays on the load. Of all refusals only BD_NO_STRETCH shows the bank off the load; after any other nothing is known,
- * and nothing is shown but why.
+ * stays on the load. Where the record says that no stretch is left the bank is off the load. After a refusal nothing is
+ * known, and nothing is shown but why. A key shows another day, and so nothing of the bank as it is now.
  */
 #include <inttypes.h>
 #include <stdbool.h>
@@ -105,61 +109,89 @@ static bool since_sunset(const moment *m) { return m->time >= m->sunset; }
 
 static void show_clock(uint64_t time) { printf("%02" PRIu64 ":%02" PRIu64, time / HOUR, time % HOUR); }
 
-/* Shows the wing, a moment of a civil day, and the Hebrew day that it lies in; both days are in range. */
-static void show_day(uint64_t wing, const moment *m, uint64_t civil, uint64_t day)
+/* The Hebrew day that the record stands on. */
+static void show_day(const bd_record *record)
 {
-    bd_hebrew_date hebrew = bd_day_to_hebrew(day);
+    printf("%s, %" PRIu64 " %s %" PRIu64, bd_weekday_name(bd_weekday(record->day).weekday), record->date,
+           bd_month_name(record->month, bd_year(record->year).length), record->year);
+}
 
-    printf("wing %" PRIu64 ", %" PRId64 "-%02" PRIu64 "-%02" PRIu64 " %s ", wing, m->year, m->month, m->date,
+static void show_days_left(const bd_record *record)
+{
+    printf("days left ");
+    if (record->none)
+        printf("--");
+    else
+        printf("%" PRId64, record->days_left);
+}
+
+/* Shows the wing, a moment of a civil day, the Hebrew day that it lies in, and the bank. */
+static void show_now(const moment *m, uint64_t civil, const bd_record *record)
+{
+    printf("wing %" PRIu64 ", %" PRId64 "-%02" PRIu64 "-%02" PRIu64 " %s ", record->wing, m->year, m->month, m->date,
            bd_weekday_name(bd_weekday(civil).weekday));
     show_clock(m->time);
     printf(", %s sunset (", since_sunset(m) ? "since" : "before");
     show_clock(m->sunset);
-    printf(")\n%s, %" PRIu64 " %s %" PRIu64 "\n", bd_weekday_name(bd_weekday(day).weekday), hebrew.day,
-           bd_month_name(hebrew.month, hebrew.length), hebrew.year);
+    printf(")\n");
+    show_day(record);
+    printf("\nbank %s the load\n", !record->none && record->days_left <= 0 ? "ON" : "off");
+    show_days_left(record);
+    printf("\n");
 }
 
 static int refused(uint64_t wing, const char *date, const char *when, uint64_t refusal)
 {
+    fflush(stdout); /* what was shown comes before it */
     fprintf(stderr, "panel: wing %" PRIu64 ", %s%s: %s (refusal %" PRIu64 ")\n", wing, date, when,
             bd_refusal_name(refusal), refusal);
     return 1;
 }
 
-/* A bad wing is told before a bad date: the day of a refused date is 0, and bd_stretch looks at the wing first. */
-static int show(uint64_t wing, const char *date, const moment *m)
+/* Moves the record by each key, + or -, and shows the day that it then stands on. */
+static int press(const char *keys, const char *date, bd_record *record)
 {
-    bd_civil_day civil = bd_gregorian_to_day(m->year, m->month, m->date);
-    uint64_t day = since_sunset(m) ? civil.day + 1 : civil.day;
-    const char *when = since_sunset(m) ? " since sunset" : "";
-    bd_stretch_answer stretch = bd_stretch(wing, day);
-    if (stretch.refusal == BD_BAD_WING) return refused(wing, date, "", stretch.refusal);
-    if (civil.refusal != BD_DONE) return refused(wing, date, "", civil.refusal);
-    bool none = stretch.refusal == BD_NO_STRETCH; /* the last days of the range have no stretch after them */
-    if (stretch.refusal != BD_DONE && !none) return refused(wing, date, when, stretch.refusal);
-
-    show_day(wing, m, civil.day, day);
-    printf("bank %s the load\n", !none && stretch.days_left <= 0 ? "ON" : "off");
-    if (none)
-        printf("days left --\n");
-    else
-        printf("days left %" PRId64 "\n", stretch.days_left);
+    for (; *keys != '\0'; ++keys) {
+        uint64_t refusal = *keys == '+' ? bd_record_next(record) : bd_record_back(record);
+        if (refusal != BD_DONE) return refused(record->wing, date, *keys == '+' ? " at a key +" : " at a key -", refusal);
+        printf("%c ", *keys);
+        show_day(record);
+        printf(", ");
+        show_days_left(record);
+        printf(", days remaining %" PRIu64 "\n", record->remaining);
+    }
     return 0;
+}
+
+/* A bad wing is told before a bad date: the day of a refused date is 0, and bd_record_set looks at the wing first. */
+static int show(uint64_t wing, const char *date, const moment *m, const char *keys)
+{
+    bd_record record = {0};
+    bd_civil_day civil = bd_gregorian_to_day(m->year, m->month, m->date);
+    uint64_t refusal = bd_record_set(&record, wing, civil.day);
+    if (refusal == BD_BAD_WING) return refused(wing, date, "", refusal);
+    if (civil.refusal != BD_DONE) return refused(wing, date, "", civil.refusal);
+    if (refusal == BD_DONE && since_sunset(m)) refusal = bd_record_next(&record);
+    if (refusal != BD_DONE) return refused(wing, date, since_sunset(m) ? " since sunset" : "", refusal);
+    show_now(m, civil.day, &record);
+    return press(keys, date, &record);
 }
 
 int main(int argc, char **argv)
 {
     uint64_t wing;
     moment m;
-    const char *at = argc > 3 ? argv[3] : "", *sunset = argc > 4 ? argv[4] : "";
-    if (argc < 3 || argc > 5 || !read_wing(argv[1], &wing) || !read_moment(argv[2], at, sunset, &m)) {
-        fprintf(stderr, "usage: panel WING DATE [TIME [SUNSET]]\n"
+    const char *at = argc > 3 ? argv[3] : "", *sunset = argc > 4 ? argv[4] : "", *keys = argc > 5 ? argv[5] : "";
+    if (argc < 3 || argc > 6 || !read_wing(argv[1], &wing) || !read_moment(argv[2], at, sunset, &m) ||
+        keys[strspn(keys, "+-")] != '\0') {
+        fprintf(stderr, "usage: panel WING DATE [TIME [SUNSET [KEYS]]]\n"
                         "WING is 1 or, for the guest wing, 2;\n"
                         "DATE is a Gregorian date, as 2014-09-27 or -3760-09-07, or the word today;\n"
                         "TIME and SUNSET are hours and minutes, as 18:52, and the sunset is after noon;\n"
                         "without TIME it is noon, and for today the time that it is now;\n"
-                        "without SUNSET it is 18:00, the calendar's hour and not your hall's sunset\n");
+                        "without SUNSET it is 18:00, the calendar's hour and not your hall's sunset;\n"
+                        "KEYS are + and -, each of which shows the day after or before the one shown\n");
         return 2;
     }
-    return show(wing, argv[2], &m);
+    return show(wing, argv[2], &m, keys);
 }
