@@ -9,12 +9,21 @@ pub use slices::sum;
 pub use slices::wide;
 
 // The most fields that an answer has.
-pub const FIELDS: usize = 10;
+pub const FIELDS: usize = 11;
 
 pub struct Answer {
     pub count: usize,
     // A number below 0 stands there as 2^64 less.
     pub of: [u64; FIELDS],
+}
+
+// A number that may be below 0, as it stands there.
+pub fn bits(number: i64) -> u64 {
+    let magnitude = show::magnitude(number);
+    if number < 0 {
+        return std::num::wrapping_sub_u64(0, magnitude);
+    }
+    magnitude
 }
 
 // No field: the question is not understood.

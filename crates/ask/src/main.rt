@@ -1,5 +1,5 @@
-// Reads questions, one to a line of standard input, and answers each. They are told in ask_dates, ask_years, ask_runs,
-// ask_lists, ask_pages and ask_sheets.
+// Reads questions, one to a line of standard input, and answers each. They are told in ask_dates, ask_years, ask_records,
+// ask_runs, ask_lists, ask_pages and ask_sheets.
 use ask_held::ROOM;
 use line_code::LINE_END;
 

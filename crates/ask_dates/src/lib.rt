@@ -7,12 +7,12 @@
 mod signed;
 
 use answering::Answer;
+use answering::bits;
 use answering::fields;
 use answering::more;
 use answering::no_answer;
 use asking::Numbers;
 use asking::place;
-use signed::bits;
 use signed::first_signed;
 
 fn civil_date(date: civil::CivilDate) -> Answer {

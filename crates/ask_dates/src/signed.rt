@@ -1,4 +1,4 @@
-// Numbers below 0: a civil year that is asked, and those of an answer.
+// A civil year that is asked, which may be below 0.
 use asking::LARGEST_SIGNED;
 use asking::Numbers;
 
@@ -22,13 +22,4 @@ pub fn first_signed(numbers: Numbers) -> Signed {
         good: true,
         number: if below { 0 - number } else { number },
     }
-}
-
-// As it stands in a field of an answer.
-pub fn bits(number: i64) -> u64 {
-    let magnitude = show::magnitude(number);
-    if number < 0 {
-        return std::num::wrapping_sub_u64(0, magnitude);
-    }
-    magnitude
 }

@@ -1,4 +1,4 @@
-// The questions of days and years that are answered with numbers alone, and runs of them.
+// The questions of days, years and records that are answered with numbers alone, and runs of them.
 //
 //     sum new_year 1 10000            the fields of the answers to a run of numbers, each mixed into one number
 //     count marks 1 9999 0 4 1 7      in how many years of a run field 0 is 4 and field 1 is 7, and the first of them, or 0
@@ -101,8 +101,12 @@ fn one(name: &[u8], numbers: Numbers) -> Answer {
         return of_one(call, n[0]);
     }
     let answer = ask_dates::answer(name, numbers);
-    if answer.count == 0 {
-        return ask_years::answer(name, numbers);
+    if 0 < answer.count {
+        return answer;
     }
-    answer
+    let answer = ask_years::answer(name, numbers);
+    if 0 < answer.count {
+        return answer;
+    }
+    ask_records::answer(name, numbers)
 }

@@ -1,0 +1,122 @@
+// The questions of the panel's day record. Its numbers are answered in the C header's order, after the refusal of the last
+// call.
+//
+//     record_set 1 2456928                 a new record, set
+//     record_set 1 2456928 3 2456928       a new record, set, and set once more
+//     record_next 1 2456928                a new record, set, and moved on
+//     record_back 1 2456928                a new record, set, and moved back
+//     record_walk 1 2456926 354            a new record, set, moved on so many times and then moved back as often: how many of
+//                                          the moves on, and of those back, left it as set afresh to the day then due
+use answering::Answer;
+use answering::fields;
+use answering::more;
+use answering::no_answer;
+use asking::Numbers;
+use record::DayRecord;
+use record::Moved;
+use std::num::wrapping_add_u64;
+use std::num::wrapping_sub_u64;
+
+fn new_record() -> DayRecord {
+    DayRecord {
+        day: 0,
+        wing: 0,
+        year: 0,
+        month: 0,
+        date: 0,
+        first: 0,
+        length: 0,
+        days_left: 0,
+        none: 0,
+        remaining: 0,
+    }
+}
+
+fn set(wing: u64, day: u64) -> DayRecord {
+    let m = record_code::set(new_record(), wing, day);
+    m.after
+}
+
+fn left(m: Moved) -> Answer {
+    let r = m.after;
+    let of_day = fields(&[m.refusal, r.day, r.wing, r.year, r.month, r.date]);
+    more(
+        of_day,
+        &[
+            r.first,
+            r.length,
+            answering::bits(r.days_left),
+            r.none,
+            r.remaining,
+        ],
+    )
+}
+
+fn same(a: DayRecord, b: DayRecord) -> bool {
+    let of_day = (a.day == b.day)
+        & ((a.wing == b.wing) & ((a.year == b.year) & (a.month == b.month)));
+    let of_year = (a.date == b.date) & (a.remaining == b.remaining);
+    let of_stretch = (a.first == b.first)
+        & ((a.length == b.length) & ((a.days_left == b.days_left) & (a.none == b.none)));
+    of_day & (of_year & of_stretch)
+}
+
+fn moved(on: bool, r: DayRecord) -> DayRecord {
+    if on {
+        let m = record_code::next(r);
+        return m.after;
+    }
+    let m = record_code::back(r);
+    m.after
+}
+
+struct Course {
+    pub record: DayRecord,
+    pub agreed: u64,
+}
+
+fn walked(on: bool, from: DayRecord, days: u64) -> Course {
+    let mut r = from;
+    let mut agreed: u64 = 0;
+    let mut i: u64 = 0;
+    while i < days {
+        r = moved(on, r);
+        i += 1;
+        let due = laws::pick(
+            on,
+            wrapping_add_u64(from.day, i),
+            wrapping_sub_u64(from.day, i),
+        );
+        agreed = wrapping_add_u64(agreed, laws::pick(same(r, set(from.wing, due)), 1, 0));
+    }
+    Course { record: r, agreed }
+}
+
+fn walk(wing: u64, day: u64, days: u64) -> Answer {
+    if 4_000_000 < days {
+        return no_answer();
+    }
+    let on = walked(true, set(wing, day), days);
+    let back = walked(false, on.record, days);
+    fields(&[on.agreed, back.agreed])
+}
+
+pub fn answer(name: &[u8], numbers: Numbers) -> Answer {
+    let n = numbers.of;
+    let twice = asking::asked(b"record_set", b"4", name, numbers) == 0;
+    if twice {
+        return left(record_code::set(set(n[0], n[1]), n[2], n[3]));
+    }
+    match asking::asked(
+        b"record_set record_next record_back record_walk",
+        b"2223",
+        name,
+        numbers,
+    ) {
+        0 => left(record_code::set(new_record(), n[0], n[1])),
+        1 => left(record_code::next(set(n[0], n[1]))),
+        2 => left(record_code::back(set(n[0], n[1]))),
+        3 => walk(n[0], n[1], n[2]),
+        _ => no_answer(),
+    }
+}
