@@ -11,6 +11,7 @@ use lib.Dec.{eqb, ltb}
 use lib.ListN.{length, take}
 use Rattle.laws.specs.Promise.{_else_, Promised, SmallestAfter}
 use Rattle.laws.specs.Buffer.{Lent}
+use Rattle.laws.specs.Runs.{elem}
 use Rattle.laws.proofs.One.{one-result}
 use Rattle.laws.proofs.Stores.{list-written, lent-done, lent-unless}
 use Rattle.laws.proofs.Promises.{Catches, ranged, asks, answered, smallest-after}
@@ -94,6 +95,9 @@ rest-days-buffer-one wing h buffer = one-result (wingRestDaysBuffer wing h buffe
 
 pub rest-on-one : (table : List ℕ) (w : ℕ) (date : YearDate) (r s : Bool) → r ≡ restOn table w date → s ≡ restOn table w date → r ≡ s
 rest-on-one table w date = one-result (restOn table w date)
+
+pub kept-one : (wing row : ℕ) (r s : Bool) → r ≡ elem row (tableOf wing) → s ≡ elem row (tableOf wing) → r ≡ s
+kept-one wing row = one-result (elem row (tableOf wing))
 
 pub out-of-wings-one : (wing : ℕ) (r s : Bool) → r ≡ outOfWings wing → s ≡ outOfWings wing → r ≡ s
 out-of-wings-one wing = one-result (outOfWings wing)

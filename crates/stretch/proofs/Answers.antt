@@ -9,7 +9,7 @@ use native.Mathlib.Omega.{arith}
 use native.Mathlib.Decide.{decLt}
 use borrow.Author.Tests.{lt-ltb, le-ltb, le-leb, ltb-true, ltb-false}
 use lib.Dec.{ltb}
-use lib.IntN.{pos, negsuc, subℕ}
+use lib.IntN.{ℤ, pos, negsuc, subℕ}
 use lib.Signed.{_≤ℤ_}
 use Rattle.laws.specs.Promise.{SmallestAfter}
 use Rattle.laws.proofs.One.{one-result}
@@ -89,3 +89,10 @@ module _ (wing : ℕ) where
   -- One answer.
   pub stretch-one : (j : ℕ) (r s : StretchAnswer) → r ≡ wingStretch wing j → s ≡ wingStretch wing j → r ≡ s
   stretch-one j = one-result (wingStretch wing j)
+
+  -- And one result of each step.
+  pub stretch-in-one : (j : ℕ) (r s : StretchAnswer) → r ≡ stretchAnswer (tableOf wing) j → s ≡ stretchAnswer (tableOf wing) j → r ≡ s
+  stretch-in-one j = one-result (stretchAnswer (tableOf wing) j)
+
+pub days-left-one : (first j : ℕ) (r s : ℤ) → r ≡ subℕ first j → s ≡ subℕ first j → r ≡ s
+days-left-one first j = one-result (subℕ first j)
