@@ -153,7 +153,7 @@ static int press(const char *keys, const char *date, bd_record *record)
 {
     for (; *keys != '\0'; ++keys) {
         uint64_t refusal = *keys == '+' ? bd_record_next(record) : bd_record_back(record);
-        if (refusal != BD_DONE) return refused(record->wing, date, *keys == '+' ? " at a key +" : " at a key -", refusal);
+        if (refusal != BD_DONE) return refused(record->wing, date, *keys == '+' ? " at key +" : " at key -", refusal);
         printf("%c ", *keys);
         show_day(record);
         printf(", ");

@@ -2,11 +2,11 @@
  * Bournedrouth: the fixed Hebrew calendar for the battery room, years 1 to 9999.
  *
  * Every call is a question with one answer. An answer is a struct whose first number is the refusal: BD_DONE (0), or
- * why there is no answer. Every other number of a refused answer is 0, but that BD_BUFFER_TOO_SHORT also tells how many
- * entries or bytes are wanted. Five calls answer otherwise: bd_record_set, bd_record_next, bd_record_back and bd_walk_begin
- * with the refusal alone, and bd_walk_next with a row or "no more". No call keeps anything, waits, allocates or stops the
- * program; a day's record is the caller's own, and so is the walker in which it is kept where a walk stands. Any number and
- * any bytes may be asked, and calls may be made from several threads at once.
+ * why there is no answer. Every other number of a refused answer is 0, but that BD_BUFFER_TOO_SHORT also tells how
+ * many entries or bytes are wanted. Five calls answer otherwise: bd_record_set, bd_record_next, bd_record_back and
+ * bd_walk_begin with the refusal alone, and bd_walk_next with a row or "no more". No call keeps anything, waits,
+ * allocates or stops the program: a day's record, and the walker that tells where a walk stands, are the caller's own.
+ * Any number and any bytes may be asked, and calls may be made from several threads at once.
  *
  * A day is a Julian Day Number. A Hebrew day has the number of the civil day that holds its daylight; it begins the
  * evening before, for the calendar's arithmetic at 18:00. Civil years are signed and there is a year 0: 3761 BCE is
@@ -14,24 +14,26 @@
  *
  * What a caller must still get right:
  *   - The evening. No call is told the time, and the hall's sunset is the panel's own: before it ask for the number of
- *     the civil day, from sunset on for the day after, that number plus 1. A panel that changes the day at midnight is
- *     hours late, with putting the bank on the load and with taking it off.
+ *     the civil day, from sunset on for the day after, that number plus 1. A record stands on its day until it is
+ *     moved: move it on at sunset. A panel that changes the day at midnight is hours late, with putting the bank on
+ *     the load and with taking it off.
  *   - The wing. 1 and 2 are both good: a panel that names the other wing is told of the other wing's rest days. Only a
  *     loaded sheet is refused where it is the other wing's.
- *   - A pointer must be valid and, if it is to numbers or to a walker, aligned for uint64_t; bytes may begin anywhere.
- *     Where the length given with it is 0 it may be NULL: it is proved that no entry and no byte is touched then, and
- *     seen in the archive's code and tested, for the lists of every year and for sheets, written and read, that no more
- *     is asked of the pointer.
- *   - A length must be true: at least so many numbers, or bytes, stand at the pointer. During the call nobody else uses
- *     what it writes, a walker too, and nobody changes a sheet that it reads. Several calls may read one sheet at once.
+ *   - A pointer must be valid and, unless it is to bytes, which may begin anywhere, aligned for uint64_t. Where the
+ *     length given with it is 0 it may be NULL: it is proved that no entry and no byte is touched then, and seen in
+ *     the archive's code and tested, for the lists of every year and for sheets, written and read, that no more is
+ *     asked of the pointer.
+ *   - A length must be true: at least so many numbers, or bytes, stand at the pointer. During the call nobody else
+ *     uses what it writes, a record or a walker too, and nobody changes a sheet that it reads. Several calls may read
+ *     one sheet at once.
  *   - A walker goes with the sheet that it was begun on. One that bd_walk_begin did not make, or that is given other
  *     bytes, is safe and its walk ends, but its rows are then those of whatever bytes it is given.
  *   - The years of a sheet. One that is accepted may be of years that are all past: asked for a year, a call refuses
  *     one that is not on the sheet, but a walk hands out the rows that are.
  *   - Every number is passed as 64 bits. These declarations see to that. A number that was cut before it came here
  *     arrives as another number, and may be a good one.
- *   - Look at the refusal first. Of all refusals only BD_NO_STRETCH means that the bank is off the load; after any
- *     other, nothing is known.
+ *   - Look at the refusal first. Of all refusals only BD_NO_STRETCH means that the bank is off the load, as `none` of
+ *     a record does; after any other, nothing is known.
  *
  * The archive is for x86-64 Linux (System V calling convention). English names are in bournedrouth_names.h.
  */
@@ -347,11 +349,11 @@ bd_list_answer bd_stretches(uint64_t wing, uint64_t year, uint64_t *out, size_t 
  *     if (bd_record_next(&record) == BD_DONE) show(&record);  // else it stands on the last day of the range
  *
  * After any such calls on a new record it is either still new or tells of its day and wing what bd_day_to_hebrew and
- * bd_stretch tell. A refused call alters nothing. Look at `none` before the three numbers above it: on the last four days of
- * the range no stretch is left, and they are 0, as days left are on the first day of a stretch.
+ * bd_stretch tell. A refused call alters nothing. Look at `none` before the three numbers above it: on the last four
+ * days of the range no stretch is left, and they are 0, as days left are on the first day of a stretch.
  *
- * The numbers are the panel's to read and these calls' to write. A record that was changed by hand, or kept where it may be
- * spoilt, is safe and each call ends, but it may then be moved to something that is not so: set it again.
+ * The numbers are the panel's to read and these calls' to write. A record that was changed by hand, or kept where it
+ * may be spoilt, is safe and each call ends, but it may be moved to something that is not so: set it again.
  */
 typedef struct bd_record {
     uint64_t day; /* day number; 0 in a new record alone */
@@ -370,9 +372,9 @@ typedef struct bd_record {
 uint64_t bd_record_set(bd_record *record, uint64_t wing, uint64_t day);
 
 /*
- * Moves a record to the next day. Most days this takes a small part of what setting it takes. Refusal, told as the number
- * alone: 4 on the last day of the range, or if the record's day is outside it, as a new one's is. (15 if its day is in
- * range and its wing neither 1 nor 2, as no record's is that was set.)
+ * Moves a record to the next day, for about a quarter of what setting it takes. Refusal, told as the number alone: 4
+ * on the last day of the range, or if the record's day is outside it, as a new one's is. (15 if its day is in range
+ * and its wing neither 1 nor 2, as no record's is that was set.)
  */
 uint64_t bd_record_next(bd_record *record);
 

@@ -1,6 +1,6 @@
 /*
- * The panel's day record: rows of known days, whole years of each kind walked on and back with each day against a record
- * that is set afresh and against the calls that own its numbers, and what is refused, which alters nothing.
+ * The panel's day record: rows of known days; whole years of each kind, walked on and back, with each day against a record
+ * that is set afresh and against the calls that own its numbers; and what is refused, which alters nothing.
  */
 #include <string.h>
 
@@ -152,7 +152,8 @@ static void spoilt(uint64_t wing, uint64_t number)
 
 void records(void)
 {
-    static const uint64_t NUMBERS[] = {0, 1, 2, 28, 29, 30, 400, 2456927, 2456929, BD_LAST_DAY, UINT64_MAX - 1, UINT64_MAX};
+    static const uint64_t NUMBERS[] = {0,   1,       2,       28,          29,             30,
+                                       400, 2456927, 2456929, BD_LAST_DAY, UINT64_MAX - 1, UINT64_MAX};
     bd_record guarded;
     begin("the panel's day record");
     rows();

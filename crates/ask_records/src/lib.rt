@@ -5,8 +5,8 @@
 //     record_set 1 2456928 3 2456928       a new record, set, and set once more
 //     record_next 1 2456928                a new record, set, and moved on
 //     record_back 1 2456928                a new record, set, and moved back
-//     record_walk 1 2456926 354            a new record, set, moved on so many times and then moved back as often: how many of
-//                                          the moves on, and of those back, left it as set afresh to the day then due
+//     record_walk 1 2456926 354            a new record, set, moved on so many times and then back as often: how many moves on,
+//                                          and how many back, left it as a new record set to the day then due
 use answering::Answer;
 use answering::fields;
 use answering::more;

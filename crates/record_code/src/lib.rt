@@ -1,5 +1,5 @@
-// The code that keeps a panel's day record. Each call is by value: a record comes in, and goes out as the call leaves it, with
-// the refusal number. `panel` lends the record.
+// The code that keeps a panel's day record. Each call is by value: a record comes in, and goes out as the call leaves it,
+// with the refusal number. `panel` lends the record.
 //
 // Set, a day is worked out afresh. Moved, most of it stays: the date goes on within its month, and the stretch is kept while
 // it answers for the day. What does not stay is worked out afresh. A record that none of these calls made may hold any
@@ -56,7 +56,8 @@ pub fn set(r: DayRecord, wing: u64, day: u64) -> Moved
     )
 }
 
-// Refusal 4 for a record whose day is outside the range or its last; 15 for one that none of these calls made, of no wing.
+// Refusal 4 for a record whose day is outside the range, or its last day; 15 for a wing that is neither 1 nor 2, which no
+// record has that was set.
 pub fn next(r: DayRecord) -> Moved
     ensures { λ m. ⌜ m ≡ nextOf r ⌝ }
 {
@@ -70,7 +71,7 @@ pub fn next(r: DayRecord) -> Moved
     left(0, joined(r.wing, r.day + 1, x, stretches::on(r)))
 }
 
-// Refusals as above, with the range's first day for its last.
+// The same, with the range's first day for its last.
 pub fn back(r: DayRecord) -> Moved
     ensures { λ m. ⌜ m ≡ backOf r ⌝ }
 {
