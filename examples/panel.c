@@ -109,11 +109,12 @@ static bool since_sunset(const moment *m) { return m->time >= m->sunset; }
 
 static void show_clock(uint64_t time) { printf("%02" PRIu64 ":%02" PRIu64, time / HOUR, time % HOUR); }
 
-/* The Hebrew day that the record stands on. */
+/* The Hebrew day that the record stands on. The name of Adar alone wants the year's length. */
 static void show_day(const bd_record *record)
 {
+    uint64_t length = record->month == BD_ADAR ? bd_year(record->year).length : 0;
     printf("%s, %" PRIu64 " %s %" PRIu64, bd_weekday_name(bd_weekday(record->day).weekday), record->date,
-           bd_month_name(record->month, bd_year(record->year).length), record->year);
+           bd_month_name(record->month, length), record->year);
 }
 
 static void show_days_left(const bd_record *record)

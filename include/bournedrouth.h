@@ -56,9 +56,10 @@ extern "C" {
 #endif
 
 /*
- * Why there is no answer. Where several apply, BD_BAD_WING comes before all others, then BD_BAD_YEAR_COUNT for a sheet
- * that is written, and for one that is read BD_SHEET_TOO_SHORT, BD_BAD_SHEET_YEARS, BD_BAD_SHEET_LAYOUT and
- * BD_BAD_SHEET_CONTENT; else the smallest is given. Each call below has its refusals in that order.
+ * Why there is no answer. Where several apply, BD_BAD_WING comes before all others in a call that names a wing, then
+ * BD_BAD_YEAR_COUNT for a sheet that is written, and for one that is read BD_SHEET_TOO_SHORT, BD_BAD_SHEET_YEARS,
+ * BD_BAD_SHEET_LAYOUT and BD_BAD_SHEET_CONTENT; else the smallest is given. Each call below has its refusals in that
+ * order.
  */
 enum bd_refusal {
     BD_DONE = 0,                    /* there is an answer */
@@ -284,7 +285,10 @@ bd_hebrew_date bd_day_to_hebrew(uint64_t day);
 
 /* ---- Rest days and stretches ---- */
 
-/* The wings. Every question about rest days or stretches names one first. Saturdays are rest days of both. */
+/*
+ * The wings. Every question about rest days or stretches names one, before its day or year; a record keeps the one that
+ * it was set with. Saturdays are rest days of both.
+ */
 enum bd_wing {
     BD_WING_1 = 1,    /* eight rest days: Tishri 1, 2, 10, 15, 22; Nisan 15, 21; Sivan 6 */
     BD_GUEST_WING = 2 /* thirteen, these and the second days: Tishri 16, 23; Nisan 16, 22; Sivan 7 */
@@ -349,8 +353,9 @@ bd_list_answer bd_stretches(uint64_t wing, uint64_t year, uint64_t *out, size_t 
  *     if (bd_record_next(&record) == BD_DONE) show(&record);  // else it stands on the last day of the range
  *
  * After any such calls on a new record it is either still new or tells of its day and wing what bd_day_to_hebrew and
- * bd_stretch tell. A refused call alters nothing. Look at `none` before the three numbers above it: on the last four
- * days of the range no stretch is left, and they are 0, as days left are on the first day of a stretch.
+ * bd_stretch tell. A refused call alters nothing, so that the record goes on telling of the day that it stood on: look
+ * at the refusal. Look at `none` before the three numbers above it: on the last four days of the range no stretch is
+ * left, and they are 0, as days left are on the first day of a stretch.
  *
  * The numbers are the panel's to read and these calls' to write. A record that was changed by hand, or kept where it
  * may be spoilt, is safe and each call ends, but it may be moved to something that is not so: set it again.

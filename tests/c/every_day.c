@@ -168,10 +168,9 @@ static void record_stretch(bd_record *r, uint64_t first, uint64_t length, int64_
     same("first of the record", r->first, first), same("length of the record", r->length, length);
     same_signed("days left of the record", r->days_left, days_left), same("flag of the record", r->none, none);
     same("refusal of the record", bd_record_next(r), was.day < LAST ? BD_DONE : BD_DAY_OUT_OF_RANGE);
-    if (was.day == LAST) return;
     bd_record back = *r;
-    same("refusal of the record moved back", bd_record_back(&back), BD_DONE);
-    same("moved back it differs", memcmp(&back, &was, sizeof back) != 0, 0);
+    if (was.day < LAST) same("refusal of the record moved back", bd_record_back(&back), BD_DONE);
+    same("moved back, or refused, it differs", memcmp(&back, &was, sizeof back) != 0, 0);
 }
 
 uint64_t find_stretches(uint64_t wing, uint64_t year, uint64_t list[2 * MOST_DAYS])

@@ -150,6 +150,9 @@ static void record_struct(void)
     WORDS(bd_record, 2456942, 2, 5775, 1, 17, 2456940, 3, (uint64_t)INT64_C(-2), 0, 337);
     same("refusal of the last day", raw_record_set(room + AROUND, BD_WING_1, BD_LAST_DAY), 0);
     WORDS(bd_record, BD_LAST_DAY, 1, 9999, 13, 29, 0, 0, 0, 1, 0);
+    same("refusal behind the last day", raw_record_next(room + AROUND), 4);
+    same("refusal of wing 3", raw_record_set(room + AROUND, 3, 2456942), 15);
+    WORDS(bd_record, BD_LAST_DAY, 1, 9999, 13, 29, 0, 0, 0, 1, 0);
     AT(bd_record, day, 0), AT(bd_record, wing, 1), AT(bd_record, year, 2), AT(bd_record, month, 3), AT(bd_record, date, 4);
     AT(bd_record, first, 5), AT(bd_record, length, 6), AT(bd_record, days_left, 7), AT(bd_record, none, 8);
     AT(bd_record, remaining, 9);

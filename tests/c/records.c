@@ -80,18 +80,19 @@ static bd_record gathered(uint64_t wing, uint64_t day)
 static void walked(uint64_t wing, uint64_t from, uint64_t to)
 {
     bd_record record = NEW, fresh = NEW, all;
+    asking("a record of wing %" PRIu64 " set to day %" PRIu64, wing, from);
     same("refusal", bd_record_set(&record, wing, from), BD_DONE);
     for (uint64_t day = from; day <= to; ++day) {
-        if (day > from) same("refusal of the move", bd_record_next(&record), BD_DONE);
         asking("a record of wing %" PRIu64 " moved on to day %" PRIu64, wing, day);
+        if (day > from) same("refusal of the move", bd_record_next(&record), BD_DONE);
         all = gathered(wing, day);
         same_record(&record, &all);
         same("refusal", bd_record_set(&fresh, wing, day), BD_DONE);
         same_record(&record, &fresh);
     }
     for (uint64_t day = to; day-- > from;) {
-        same("refusal of the move", bd_record_back(&record), BD_DONE);
         asking("a record of wing %" PRIu64 " moved back to day %" PRIu64, wing, day);
+        same("refusal of the move", bd_record_back(&record), BD_DONE);
         same("refusal", bd_record_set(&fresh, wing, day), BD_DONE);
         same_record(&record, &fresh);
     }
@@ -136,18 +137,32 @@ static void refused(bd_record from)
     }
 }
 
-/* Day and wing are good and the rest is not: the call ends, and day and wing are moved. Zeros besides are worked out. */
-static void spoilt(uint64_t wing, uint64_t number)
+/* Day and wing are good, and the rest may be anything: the calls end, and day and wing are moved. */
+static void spoilt(const bd_record *from)
 {
-    const bd_record from = {2456928, wing, number, number, number, number, number, (int64_t)number, number, number};
-    bd_record on = from, back = from;
-    asking("a record of day 2456928 and %" PRIu64 " besides", number);
+    bd_record on = *from, back = *from;
+    asking("a spoilt record of day %" PRIu64 ", wing %" PRIu64, from->day, from->wing);
     same("refusal", bd_record_next(&on), BD_DONE), same("refusal of the way back", bd_record_back(&back), BD_DONE);
-    same("day", on.day, 2456929), same("day before", back.day, 2456927);
-    same("wing", on.wing, wing), same("wing of the way back", back.wing, wing);
-    if (number != 0) return;
-    const bd_record after = gathered(wing, 2456929), before = gathered(wing, 2456927);
-    same_record(&on, &after), same_record(&back, &before);
+    same("day", on.day, from->day + 1), same("day before", back.day, from->day - 1);
+    same("wing", on.wing, from->wing), same("wing of the way back", back.wing, from->wing);
+}
+
+/* One field after another spoilt by each number, and all of them; zeros besides day and wing are worked out. */
+static void spoilt_by(uint64_t wing, uint64_t number)
+{
+    const bd_record good = gathered(wing, 2456928), after = gathered(wing, 2456929), before = gathered(wing, 2456927);
+    bd_record all = good, zeros = {2456928, wing, 0, 0, 0, 0, 0, 0, 0, 0}, back = zeros;
+    for (size_t i = 2 * sizeof number; i < sizeof all; i += sizeof number) {
+        bd_record one = good;
+        memcpy((char *)&one + i, &number, sizeof number), spoilt(&one);
+        memcpy((char *)&all + i, &number, sizeof number), spoilt(&all);
+        for (size_t k = 2 * sizeof number; k < i; k += sizeof number) {
+            bd_record two = one;
+            memcpy((char *)&two + k, &number, sizeof number), spoilt(&two);
+        }
+    }
+    same("refusal", bd_record_next(&zeros), BD_DONE), same("refusal of the way back", bd_record_back(&back), BD_DONE);
+    same_record(&zeros, &after), same_record(&back, &before);
 }
 
 void records(void)
@@ -159,7 +174,7 @@ void records(void)
     rows();
     for (uint64_t wing = 1; wing <= WINGS; ++wing) {
         years(wing);
-        for (size_t i = 0; i < COUNT(NUMBERS); ++i) spoilt(wing, NUMBERS[i]);
+        for (size_t i = 0; i < COUNT(NUMBERS); ++i) spoilt_by(wing, NUMBERS[i]);
     }
     for (size_t i = 0; i < sizeof guarded / sizeof(uint64_t); ++i) {
         const uint64_t guard = GUARD + i;

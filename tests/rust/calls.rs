@@ -334,11 +334,11 @@ fn records_of(wing: u64, year: u64, new_year: u64, length: u64, ahead: &[(u64, u
     (new_year..).zip(dates).map(tell).collect()
 }
 
-/// A wing's record, set to the first day and moved on to the last; from each year's end back to its beginning; and refused
+/// A wing's record, set to the first day and moved on to the last; from each year's end back to the year before; and refused
 /// at both ends and for bad numbers, which alters nothing. Returns how many moves were made.
 fn records(wing: u64, told: &[(u64, Vec<(u64, u64)>)]) -> u64 {
     let mut record = Record::default();
-    let (mut day, mut moves) = (FIRST_DAY, 0);
+    let (mut day, mut moves, mut year_before) = (FIRST_DAY, 0, None);
     let refused = |record: &Record, refusal: u64, call: &dyn Fn(*mut Record) -> u64| {
         let mut lent = *record;
         assert_eq!((call(&mut lent), lent), (refusal, *record), "a record that is refused");
@@ -358,23 +358,26 @@ fn records(wing: u64, told: &[(u64, Vec<(u64, u64)>)]) -> u64 {
             assert_eq!(record, *want, "a record moved on");
         }
         let mut back = record;
-        for want in want.iter().rev().skip(1) {
+        for want in want.iter().rev().skip(1).chain(&year_before) {
             assert_eq!(unsafe { bd_record_back(&mut back) }, 0, "a record moved back to {}", want.day);
             assert_eq!(back, *want, "a record moved back");
         }
         day += length;
-        moves += 2 * (length - 1) + 1;
+        moves += 2 * length;
+        year_before = Some(record);
     }
     refused(&record, 4, &|r| unsafe { bd_record_next(r) });
     for record in [Record::default(), record] {
         for day in [0, FIRST_DAY - 1, 4_000_076, u64::MAX] {
             refused(&record, 4, &|r| unsafe { bd_record_set(r, wing, day) });
+        }
+        for day in [0, 2_456_928, u64::MAX] {
             for no_wing in [0, 3, 1 << 32 | wing, u64::MAX] {
                 refused(&record, 15, &|r| unsafe { bd_record_set(r, no_wing, day) });
             }
         }
     }
-    moves - 1
+    moves - 2
 }
 
 /// A wing's sheet, byte by byte, of years that are told as length and stretches; returns its bytes.

@@ -5,8 +5,8 @@
 //     record_set 1 2456928 3 2456928       a new record, set, and set once more
 //     record_next 1 2456928                a new record, set, and moved on
 //     record_back 1 2456928                a new record, set, and moved back
-//     record_walk 1 2456926 354            a new record, set, moved on so many times and then back as often: how many moves on,
-//                                          and how many back, left it as a new record set to the day then due
+//     record_walk 1 2456926 354            a new record, set, moved on so many times and then back as often: the refusal of the
+//                                          setting, and how many moves on and back left it as set afresh to the day due
 use answering::Answer;
 use answering::fields;
 use answering::more;
@@ -37,7 +37,7 @@ fn set(wing: u64, day: u64) -> DayRecord {
     m.after
 }
 
-fn left(m: Moved) -> Answer {
+fn told(m: Moved) -> Answer {
     let r = m.after;
     let of_day = fields(&[m.refusal, r.day, r.wing, r.year, r.month, r.date]);
     more(
@@ -96,16 +96,20 @@ fn walk(wing: u64, day: u64, days: u64) -> Answer {
     if 4_000_000 < days {
         return no_answer();
     }
-    let on = walked(true, set(wing, day), days);
+    let m = record_code::set(new_record(), wing, day);
+    if m.refusal != 0 {
+        return fields(&[m.refusal, 0, 0]);
+    }
+    let on = walked(true, m.after, days);
     let back = walked(false, on.record, days);
-    fields(&[on.agreed, back.agreed])
+    fields(&[0, on.agreed, back.agreed])
 }
 
 pub fn answer(name: &[u8], numbers: Numbers) -> Answer {
     let n = numbers.of;
     let twice = asking::asked(b"record_set", b"4", name, numbers) == 0;
     if twice {
-        return left(record_code::set(set(n[0], n[1]), n[2], n[3]));
+        return told(record_code::set(set(n[0], n[1]), n[2], n[3]));
     }
     match asking::asked(
         b"record_set record_next record_back record_walk",
@@ -113,9 +117,9 @@ pub fn answer(name: &[u8], numbers: Numbers) -> Answer {
         name,
         numbers,
     ) {
-        0 => left(record_code::set(new_record(), n[0], n[1])),
-        1 => left(record_code::next(set(n[0], n[1]))),
-        2 => left(record_code::back(set(n[0], n[1]))),
+        0 => told(record_code::set(new_record(), n[0], n[1])),
+        1 => told(record_code::next(set(n[0], n[1]))),
+        2 => told(record_code::back(set(n[0], n[1]))),
         3 => walk(n[0], n[1], n[2]),
         _ => no_answer(),
     }

@@ -3,8 +3,9 @@
 // Each export asks the crate that owns its question, passes every number on as it came and gives that crate's answer
 // back. Its contract is an equation with its own name in `face`, which is that crate's answer, and the law of one result is
 // shown there. Nothing is decided here. An answer is a struct of 64-bit numbers that begins with the refusal number; a list
-// goes into numbers that the caller lends, and a sheet into bytes: a pointer and then how many. A walk tells the refusal
-// alone when it begins, and then a row or no more. `include/bournedrouth.h` says the same to C.
+// goes into numbers that the caller lends, and a sheet into bytes: a pointer and then how many. A call that is lent a record
+// tells the refusal alone; so does a walk when it begins, and then a row or no more. `include/bournedrouth.h` says the same
+// to C.
 mod civil_dates;
 mod hebrew_dates;
 mod new_years;

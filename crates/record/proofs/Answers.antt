@@ -7,15 +7,15 @@ use mathlib.Core.Logic.{inl, inr, ⊎-elim}
 use Prim.Native.Nat.{ℕ, _+_, _-_}
 use native.Mathlib.Omega.{arith}
 use Rattle.laws.proofs.One.{one-result}
-use Rattle.laws.proofs.Tests.{within, or-left, or-right}
+use Rattle.laws.proofs.Tests.{within}
 use Rattle.laws.proofs.Promises.{Catches, ranged, either, let-pass, asks, answered}
 use Rattle.days.specs.Range.{firstDay, lastDay, InRange, outOfRange}
 use Rattle.rest.specs.Wings.{IsWing, outOfWings}
 use Rattle.rest.proofs.Wings.{wings}
 use Rattle.record.specs.Record.{newRecord, afresh}
-use Rattle.record.specs.Steps.{movedOn, movedBack}
-use Rattle.record.specs.Answers.{left, setTo, movedTo, nextOf, backOf}
-use Rattle.record.specs.Promises.{Afresh, PromisedSet, PromisedMove, PromisedOfAny, Call, set, next, back, called, afterAll, NewOrAfresh, AfterAnyCalls}
+use Rattle.record.specs.Steps.{recordOn, recordBack}
+use Rattle.record.specs.Answers.{leaves, setTo, movedTo, nextOf, backOf}
+use Rattle.record.specs.Promises.{Afresh, PromisedSet, PromisedMove, PromisedNext, PromisedBack, PromisedOfAny, PromisedNextOfAny, PromisedBackOfAny, Call, set, next, back, called, afterAll, NewOrAfresh, AfterAnyCalls}
 use Rattle.record.specs.declared.DayRecord.{DayRecord}
 use Rattle.record.specs.declared.Moved.{Moved}
 use Rattle.record.proofs.Told.{afresh-told}
@@ -24,8 +24,8 @@ use Rattle.record.proofs.Moves.{moves-on, moves-back}
 pub set-promised : (r : DayRecord) (wing j : ℕ) → PromisedSet r wing j (setTo r wing j)
 unfolding setTo
 set-promised r wing j =
-    asks (left 15 r) (wings wing) (omega arith) refl refl (λ w.
-    asks (left 4 r) (ranged firstDay lastDay j) (omega arith) refl refl (λ i. answered refl (refl, afresh-told wing j w i)))
+    asks (leaves 15 r) (wings wing) (omega arith) refl refl (λ w.
+    asks (leaves 4 r) (ranged firstDay lastDay j) (omega arith) refl refl (λ i. answered refl (refl, afresh-told wing j w i)))
 
 -- A record worked out afresh is of a day in range and of a wing.
 afresh-is : (wing j : ℕ) → IsWing wing → InRange j → Afresh (afresh wing j)
@@ -38,7 +38,7 @@ set-keeps r wing j k = go (outOfWings wing) refl (outOfRange j) refl
   where
     go :
         (b : Bool) → outOfWings wing ≡ b → (c : Bool) → outOfRange j ≡ c →
-        NewOrAfresh (cond b (left 15 r) (cond c (left 4 r) (left 0 (afresh wing j))) .after)
+        NewOrAfresh (cond b (leaves 15 r) (cond c (leaves 4 r) (leaves 0 (afresh wing j))) .after)
     go true e c f = k
     go false e true f = k
     go false e false f = inr (afresh-is wing j (wings wing .passes e) (within firstDay lastDay j f))
@@ -50,8 +50,8 @@ module _ (r : DayRecord) (j : ℕ) (moved : DayRecord) where
 
   any-promised : moved .day ≡ j → moved .wing ≡ r .wing → PromisedOfAny r j (movedTo r j moved)
   any-promised d w =
-      asks (left 4 r) both (omega arith) refl refl (λ _.
-      asks (left 15 r) (wings (r .wing)) (omega arith) refl refl (λ _. answered refl (d, w)))
+      asks (leaves 4 r) both (omega arith) refl refl (λ _.
+      asks (leaves 15 r) (wings (r .wing)) (omega arith) refl refl (λ _. answered refl (d, w)))
 
   module _ (k : NewOrAfresh r) (right : Afresh r → InRange j → moved ≡ afresh (r .wing) j) where
     -- A new record's day is outside the range.
@@ -60,7 +60,7 @@ module _ (r : DayRecord) (j : ℕ) (moved : DayRecord) where
 
     move-promised : PromisedMove r j (movedTo r j moved)
     move-promised =
-        asks (left 4 r) both (omega arith) refl refl (λ m.
+        asks (leaves 4 r) both (omega arith) refl refl (λ m.
         let a = not-new (m .0) in
         let e = right a (m .1) in
         rw (let-pass (wings (r .wing)) (a .a-wing)) (answered refl (e, rw e (afresh-told (r .wing) j (a .a-wing) (m .1)))))
@@ -70,7 +70,7 @@ module _ (r : DayRecord) (j : ℕ) (moved : DayRecord) where
       where
         go :
             (b : Bool) → outOfRange (r .day) || outOfRange j ≡ b → (c : Bool) →
-            NewOrAfresh (cond b (left 4 r) (cond c (left 15 r) (left 0 moved)) .after)
+            NewOrAfresh (cond b (leaves 4 r) (cond c (leaves 15 r) (leaves 0 moved)) .after)
         go true e c = k
         go false e true = k
         go false e false =
@@ -79,35 +79,35 @@ module _ (r : DayRecord) (j : ℕ) (moved : DayRecord) where
             inr (subst Afresh (sym (right a (m .1))) (afresh-is (r .wing) j (a .a-wing) (m .1)))
 
 module _ (r : DayRecord) where
-  goes-on : Afresh r → InRange (r .day + 1) → movedOn r ≡ afresh (r .wing) (r .day + 1)
-  goes-on a i = ap movedOn (a .as-afresh) ∙ moves-on (r .wing) (r .day) (a .a-wing) (a .in-range) i
+  goes-on : Afresh r → InRange (r .day + 1) → recordOn r ≡ afresh (r .wing) (r .day + 1)
+  goes-on a i = ap recordOn (a .as-afresh) ∙ moves-on (r .wing) (r .day) (a .a-wing) (a .in-range) i
 
-  goes-back : Afresh r → InRange (r .day - 1) → movedBack r ≡ afresh (r .wing) (r .day - 1)
-  goes-back a i = ap movedBack (a .as-afresh) ∙ moves-back (r .wing) (r .day) (a .a-wing) (a .in-range) i
+  goes-back : Afresh r → InRange (r .day - 1) → recordBack r ≡ afresh (r .wing) (r .day - 1)
+  goes-back a i = ap recordBack (a .as-afresh) ∙ moves-back (r .wing) (r .day) (a .a-wing) (a .in-range) i
 
-  pub next-promised : NewOrAfresh r → PromisedMove r (r .day + 1) (nextOf r)
+  pub next-promised : NewOrAfresh r → PromisedNext r
   unfolding nextOf
-  next-promised k = move-promised r (r .day + 1) (movedOn r) k goes-on
+  next-promised k = move-promised r (r .day + 1) (recordOn r) k goes-on
 
-  pub back-promised : NewOrAfresh r → PromisedMove r (r .day - 1) (backOf r)
+  pub back-promised : NewOrAfresh r → PromisedBack r
   unfolding backOf
-  back-promised k = move-promised r (r .day - 1) (movedBack r) k goes-back
+  back-promised k = move-promised r (r .day - 1) (recordBack r) k goes-back
 
   -- Whatever the record is.
-  pub next-of-any : PromisedOfAny r (r .day + 1) (nextOf r)
-  unfolding nextOf movedOn
-  next-of-any = any-promised r (r .day + 1) (movedOn r) refl refl
+  pub next-of-any : PromisedNextOfAny r
+  unfolding nextOf recordOn
+  next-of-any = any-promised r (r .day + 1) (recordOn r) refl refl
 
-  pub back-of-any : PromisedOfAny r (r .day - 1) (backOf r)
-  unfolding backOf movedBack
-  back-of-any = any-promised r (r .day - 1) (movedBack r) refl refl
+  pub back-of-any : PromisedBackOfAny r
+  unfolding backOf recordBack
+  back-of-any = any-promised r (r .day - 1) (recordBack r) refl refl
 
   -- One call keeps the record new or as worked out afresh.
   call-keeps : NewOrAfresh r → (c : Call) → NewOrAfresh (called r c .after)
   unfolding nextOf backOf
   call-keeps k (set wing j) = set-keeps r wing j k
-  call-keeps k next = move-keeps r (r .day + 1) (movedOn r) k goes-on
-  call-keeps k back = move-keeps r (r .day - 1) (movedBack r) k goes-back
+  call-keeps k next = move-keeps r (r .day + 1) (recordOn r) k goes-on
+  call-keeps k back = move-keeps r (r .day - 1) (recordBack r) k goes-back
 
 -- So does any list of calls.
 calls-keep : (r : DayRecord) → NewOrAfresh r → (calls : List Call) → NewOrAfresh (afterAll r calls)

@@ -10,7 +10,7 @@ use Rattle.laws.specs.Promise.{_else_, AllMet}
 use Rattle.laws.specs.Begun.{begun}
 use Rattle.laws.specs.Search.{seek, seekNot, runStart}
 use Rattle.days.specs.Range.{InRange, outOfRange}
-use Rattle.molad.specs.Years.{InYears, leap}
+use Rattle.molad.specs.Years.{leap}
 use Rattle.molad.specs.Molad.{noMonth}
 use Rattle.newyear.specs.NewYear.{newYear, yearLength}
 use Rattle.newyear.proofs.Quick.{quick, newYear-quick}
@@ -28,83 +28,90 @@ use Rattle.stretch.specs.Answers.{wingStretch}
 use Rattle.stretch.specs.declared.StretchAnswer.{StretchAnswer}
 use Rattle.stretch.proofs.Fixed.{stretch-from}
 use Rattle.record.specs.Record.{datedOf, joined, afresh}
-use Rattle.record.specs.Answers.{setTo, nextOf, backOf, left}
+use Rattle.record.specs.Steps.{recordOn, recordBack}
+use Rattle.record.specs.Answers.{leaves, setTo, movedTo, nextOf, backOf}
 use Rattle.record.specs.Promises.{Afresh, PromisedMove}
-use Rattle.record.specs.Fixed.{on, onLast, zeros, eve, newYear5775, saturday, sunday, firstOfAll, lastSaturday, lastOfAll, WordsFixed}
+use Rattle.record.specs.Fixed.{on, onLast, zeros, ofNoWing, eve, newYear5775, saturday, sunday, firstOfAll, lastSaturday, lastOfAll, WordsFixed}
 use Rattle.record.specs.declared.DayRecord.{DayRecord}
 use Rattle.record.specs.declared.Moved.{Moved}
 use Rattle.record.proofs.Answers.{set-promised, next-promised, back-promised}
 
--- A day of year h of the wing, which begins on day n, the next year on day `later`.
+-- The length of a year, by its New Year and the next.
 long : (h : ℕ) {n later : ℕ} → newYear h ≡ n → newYear (h + 1) ≡ later → yearLength h ≡ later - n
 unfolding yearLength
 long h e f = rw (e, f)
 
-module _ (wing h n later : ℕ) (w : IsWing wing) (y : InYears h) (e : newYear h ≡ n) (f : newYear (h + 1) ≡ later) where
-  dated : (code d j : ℕ) → hebrewDay h code d ≡ record { refusal = 0; day = j } → dateOf j ≡ record { year = h; month = code; day = d }
-  dated code d j q =
-      let x : Date = record { year = h; month = code; day = d } in
-      let g = answered-good h code d (ap (λ (r : HebrewDay). r .refusal) q) in
-      let k : dayNumber x ≡ j = ap (λ (r : HebrewDay). r .day) (sym (good-answered x g) ∙ q) in rw k at (date-back x g)
-
-  -- What is worked out afresh for it.
-  worked :
-      (code d j : ℕ) (s : StretchAnswer) → hebrewDay h code d ≡ record { refusal = 0; day = j } → wingStretch wing j ≡ s →
-      afresh wing j ≡ joined wing j (record { year = h; month = code; date = d; remaining = later - 1 - j }) s
-  unfolding afresh datedOf
-  worked code d j s q t = rw (t, dated code d j q, f)
+-- The date of a day, from the day that the date is answered with.
+dated : (h code d j : ℕ) → hebrewDay h code d ≡ record { refusal = 0; day = j } → dateOf j ≡ record { year = h; month = code; day = d }
+dated h code d j q =
+    let x : Date = record { year = h; month = code; day = d } in
+    let g = answered-good h code d (ap (λ (r : HebrewDay). r .refusal) q) in
+    let k : dayNumber x ≡ j = ap (λ (r : HebrewDay). r .day) (sym (good-answered x g) ∙ q) in rw k at (date-back x g)
 
 -- Set to a day whose record is this.
-set-to : (r s : DayRecord) → Afresh s → setTo r (s .wing) (s .day) ≡ left 0 s
+set-to : (r s : DayRecord) → Afresh s → setTo r (s .wing) (s .day) ≡ leaves 0 s
 set-to r s a =
     let p = set-promised r (s .wing) (s .day) in
     let m : AllMet (IsWing (s .wing) else 15 ∷ InRange (s .day) else 4 ∷ []) = (a .a-wing, (a .in-range, tt)) in
     λ i. record { refusal = p .done .1 m i; after = (p .values m .0 ∙ sym (a .as-afresh)) i }
 
 -- Moved to the neighbouring day, whose record is this.
-moved-to : (r s : DayRecord) (m : Moved) → PromisedMove r (s .day) m → Afresh r → Afresh s → s .wing ≡ r .wing → m ≡ left 0 s
+moved-to : (r s : DayRecord) (m : Moved) → PromisedMove r (s .day) m → Afresh r → Afresh s → s .wing ≡ r .wing → m ≡ leaves 0 s
 moved-to r s m p a b e =
     let k : AllMet ((InRange (r .day) × InRange (s .day)) else 4 ∷ []) = ((a .in-range, b .in-range), tt) in
     λ i. record { refusal = p .done .1 k i; after = (p .values k .0 ∙ sym (b .as-afresh ∙ ap (λ (w : ℕ). afresh w (s .day)) e)) i }
 
-on-to : (r s : DayRecord) → Afresh r → Afresh s → s .wing ≡ r .wing → r .day + 1 ≡ s .day → nextOf r ≡ left 0 s
+on-to : (r s : DayRecord) → Afresh r → Afresh s → s .wing ≡ r .wing → r .day + 1 ≡ s .day → nextOf r ≡ leaves 0 s
 on-to r s a b e f = moved-to r s (nextOf r) (subst (λ (j : ℕ). PromisedMove r j (nextOf r)) f (next-promised r (inr a))) a b e
 
-back-to : (r s : DayRecord) → Afresh r → Afresh s → s .wing ≡ r .wing → r .day - 1 ≡ s .day → backOf r ≡ left 0 s
+back-to : (r s : DayRecord) → Afresh r → Afresh s → s .wing ≡ r .wing → r .day - 1 ≡ s .day → backOf r ≡ leaves 0 s
 back-to r s a b e f = moved-to r s (backOf r) (subst (λ (j : ℕ). PromisedMove r j (backOf r)) f (back-promised r (inr a))) a b e
 
 -- Refused.
-wing-refused : (r : DayRecord) (wing j : ℕ) → outOfWings wing ≡ true → setTo r wing j ≡ left 15 r
+wing-refused : (r : DayRecord) (wing j : ℕ) → outOfWings wing ≡ true → setTo r wing j ≡ leaves 15 r
 unfolding setTo
 wing-refused r wing j e = rw e
 
-day-refused : (r : DayRecord) (wing j : ℕ) → outOfWings wing ≡ false → outOfRange j ≡ true → setTo r wing j ≡ left 4 r
+day-refused : (r : DayRecord) (wing j : ℕ) → outOfWings wing ≡ false → outOfRange j ≡ true → setTo r wing j ≡ leaves 4 r
 unfolding setTo
 day-refused r wing j w e = rw (w, e)
 
-next-refused : (r : DayRecord) → outOfRange (r .day) || outOfRange (r .day + 1) ≡ true → nextOf r ≡ left 4 r
+next-refused : (r : DayRecord) → outOfRange (r .day) || outOfRange (r .day + 1) ≡ true → nextOf r ≡ leaves 4 r
 unfolding nextOf
 next-refused r e = rw e
 
-back-refused : (r : DayRecord) → outOfRange (r .day) || outOfRange (r .day - 1) ≡ true → backOf r ≡ left 4 r
+move-refused : (r : DayRecord) (j : ℕ) (moved : DayRecord) → outOfRange (r .day) || outOfRange j ≡ false → outOfWings (r .wing) ≡ true → movedTo r j moved ≡ leaves 15 r
+move-refused r j moved e w = rw (e, w)
+
+back-refused : (r : DayRecord) → outOfRange (r .day) || outOfRange (r .day - 1) ≡ true → backOf r ≡ leaves 4 r
 unfolding backOf
 back-refused r e = rw e
 
--- The day between New Year 5775 and its Saturday; and the days of both wings at 16 Tishri and at the range's end.
+spoilt-on : nextOf ofNoWing ≡ leaves 15 ofNoWing
+unfolding nextOf
+spoilt-on = move-refused ofNoWing 2456926 (recordOn ofNoWing) refl refl
+
+spoilt-back : backOf ofNoWing ≡ leaves 15 ofNoWing
+unfolding backOf
+spoilt-back = move-refused ofNoWing 2456924 (recordBack ofNoWing) refl refl
+
+-- The day between New Year 5775 and its Saturday.
 abbrev tishri2 : DayRecord
 tishri2 = on 2456927 1 5775 1 2 2456926 3 (negsuc 0) 352
 
-module _ (r : DayRecord) (n later : ℕ) (i : InRange (r .day)) (w : IsWing (r .wing)) (y : InYears (r .year)) (e : newYear (r .year) ≡ n) (f : newYear (r .year + 1) ≡ later) where
+-- A record of these numbers is as worked out afresh, where its date is its day's, its stretch is this, and `later` is the next New
+-- Year.
+module _ (r : DayRecord) (later : ℕ) (i : InRange (r .day)) (w : IsWing (r .wing)) (f : newYear (r .year + 1) ≡ later) where
+  worked :
+      hebrewDay (r .year) (r .month) (r .date) ≡ record { refusal = 0; day = r .day } → (s : StretchAnswer) → wingStretch (r .wing) (r .day) ≡ s →
+      afresh (r .wing) (r .day) ≡ joined (r .wing) (r .day) (record { year = r .year; month = r .month; date = r .date; remaining = later - 1 - r .day }) s
+  unfolding afresh datedOf
+  worked q s t = rw (t, dated (r .year) (r .month) (r .date) (r .day) q, f)
+
   known :
-      hebrewDay (r .year) (r .month) (r .date) ≡ record { refusal = 0; day = r .day } →
-      (s : StretchAnswer) → wingStretch (r .wing) (r .day) ≡ s →
+      hebrewDay (r .year) (r .month) (r .date) ≡ record { refusal = 0; day = r .day } → (s : StretchAnswer) → wingStretch (r .wing) (r .day) ≡ s →
       r ≡ joined (r .wing) (r .day) (record { year = r .year; month = r .month; date = r .date; remaining = later - 1 - r .day }) s → Afresh r
-  known q s t p =
-      record {
-        in-range = i;
-        a-wing = w;
-        as-afresh = p ∙ sym (worked (r .wing) (r .year) n later w y e f (r .month) (r .date) (r .day) s q t);
-      }
+  known q s t p = record { in-range = i; a-wing = w; as-afresh = p ∙ sym (worked q s t) }
 
 pub words-fixed : WordsFixed
 unfolding quick hebrewDay dayNumber leap noMonth tableOf restAt yearDate monthOf begun daysBefore monthLength nextAt firstFor pastFor seek seekNot runStart
@@ -120,23 +127,23 @@ words-fixed =
     let n10000 : newYear 10000 ≡ 4000076 = newYear-quick 10000 (omega arith) in
     let l5774 : yearLength 5774 ≡ 385 = long 5774 n5774 n5775 in
     let l9999 : yearLength 9999 ≡ 353 = long 9999 n9999 n10000 in
-    let eve' = known eve 2456541 2456926 (omega arith) (inl refl) (omega arith) n5774 n5775 (rw (n5774, l5774)) _ (stretch-from 1 5774 2456541 2456926 (inl refl) (omega arith) n5774 n5775 2456925 (omega arith) (omega arith)) refl in
-    let first = known newYear5775 2456926 2457280 (omega arith) (inl refl) (omega arith) n5775 n5776 (rw n5775) _ (stretch-from 1 5775 2456926 2457280 (inl refl) (omega arith) n5775 n5776 2456926 (omega arith) (omega arith)) refl in
-    let second = known tishri2 2456926 2457280 (omega arith) (inl refl) (omega arith) n5775 n5776 (rw n5775) _ (stretch-from 1 5775 2456926 2457280 (inl refl) (omega arith) n5775 n5776 2456927 (omega arith) (omega arith)) refl in
-    let third = known saturday 2456926 2457280 (omega arith) (inl refl) (omega arith) n5775 n5776 (rw n5775) _ (stretch-from 1 5775 2456926 2457280 (inl refl) (omega arith) n5775 n5776 2456928 (omega arith) (omega arith)) refl in
-    let fourth = known sunday 2456926 2457280 (omega arith) (inl refl) (omega arith) n5775 n5776 (rw n5775) _ (stretch-from 1 5775 2456926 2457280 (inl refl) (omega arith) n5775 n5776 2456929 (omega arith) (omega arith)) refl in
-    let one = known (on 2452186 1 5762 1 16 2452189 1 (pos 3) 338) 2452171 2452525 (omega arith) (inl refl) (omega arith) n5762 n5763 (rw n5762) _ (stretch-from 1 5762 2452171 2452525 (inl refl) (omega arith) n5762 n5763 2452186 (omega arith) (omega arith)) refl in
-    let guest = known (on 2452186 2 5762 1 16 2452185 2 (negsuc 0) 338) 2452171 2452525 (omega arith) (inr refl) (omega arith) n5762 n5763 (rw n5762) _ (stretch-from 2 5762 2452171 2452525 (inr refl) (omega arith) n5762 n5763 2452186 (omega arith) (omega arith)) refl in
-    let begin = known firstOfAll 347998 348353 (omega arith) (inl refl) (omega arith) n1 n2 (rw n1) _ (stretch-from 1 1 347998 348353 (inl refl) (omega arith) n1 n2 347998 (omega arith) (omega arith)) refl in
-    let sabbath = known lastSaturday 3999723 4000076 (omega arith) (inr refl) (omega arith) n9999 n10000 (rw (n9999, l9999)) _ (stretch-from 2 9999 3999723 4000076 (inr refl) (omega arith) n9999 n10000 4000071 (omega arith) (omega arith)) refl in
-    let l1-1 = known (onLast 4000072 1 9999 13 26 3) 3999723 4000076 (omega arith) (inl refl) (omega arith) n9999 n10000 (rw (n9999, l9999)) _ (stretch-from 1 9999 3999723 4000076 (inl refl) (omega arith) n9999 n10000 4000072 (omega arith) (omega arith)) refl in
-    let l1-2 = known (onLast 4000072 2 9999 13 26 3) 3999723 4000076 (omega arith) (inr refl) (omega arith) n9999 n10000 (rw (n9999, l9999)) _ (stretch-from 2 9999 3999723 4000076 (inr refl) (omega arith) n9999 n10000 4000072 (omega arith) (omega arith)) refl in
-    let l2-1 = known (onLast 4000073 1 9999 13 27 2) 3999723 4000076 (omega arith) (inl refl) (omega arith) n9999 n10000 (rw (n9999, l9999)) _ (stretch-from 1 9999 3999723 4000076 (inl refl) (omega arith) n9999 n10000 4000073 (omega arith) (omega arith)) refl in
-    let l2-2 = known (onLast 4000073 2 9999 13 27 2) 3999723 4000076 (omega arith) (inr refl) (omega arith) n9999 n10000 (rw (n9999, l9999)) _ (stretch-from 2 9999 3999723 4000076 (inr refl) (omega arith) n9999 n10000 4000073 (omega arith) (omega arith)) refl in
-    let l3-1 = known (onLast 4000074 1 9999 13 28 1) 3999723 4000076 (omega arith) (inl refl) (omega arith) n9999 n10000 (rw (n9999, l9999)) _ (stretch-from 1 9999 3999723 4000076 (inl refl) (omega arith) n9999 n10000 4000074 (omega arith) (omega arith)) refl in
-    let l3-2 = known (onLast 4000074 2 9999 13 28 1) 3999723 4000076 (omega arith) (inr refl) (omega arith) n9999 n10000 (rw (n9999, l9999)) _ (stretch-from 2 9999 3999723 4000076 (inr refl) (omega arith) n9999 n10000 4000074 (omega arith) (omega arith)) refl in
-    let l4-1 = known lastOfAll 3999723 4000076 (omega arith) (inl refl) (omega arith) n9999 n10000 (rw (n9999, l9999)) _ (stretch-from 1 9999 3999723 4000076 (inl refl) (omega arith) n9999 n10000 4000075 (omega arith) (omega arith)) refl in
-    let l4-2 = known (onLast 4000075 2 9999 13 29 0) 3999723 4000076 (omega arith) (inr refl) (omega arith) n9999 n10000 (rw (n9999, l9999)) _ (stretch-from 2 9999 3999723 4000076 (inr refl) (omega arith) n9999 n10000 4000075 (omega arith) (omega arith)) refl in
+    let eve' = known eve 2456926 (omega arith) (inl refl) n5775 (rw (n5774, l5774)) _ (stretch-from 1 5774 2456541 2456926 (inl refl) (omega arith) n5774 n5775 2456925 (omega arith) (omega arith)) refl in
+    let first = known newYear5775 2457280 (omega arith) (inl refl) n5776 (rw n5775) _ (stretch-from 1 5775 2456926 2457280 (inl refl) (omega arith) n5775 n5776 2456926 (omega arith) (omega arith)) refl in
+    let second = known tishri2 2457280 (omega arith) (inl refl) n5776 (rw n5775) _ (stretch-from 1 5775 2456926 2457280 (inl refl) (omega arith) n5775 n5776 2456927 (omega arith) (omega arith)) refl in
+    let third = known saturday 2457280 (omega arith) (inl refl) n5776 (rw n5775) _ (stretch-from 1 5775 2456926 2457280 (inl refl) (omega arith) n5775 n5776 2456928 (omega arith) (omega arith)) refl in
+    let fourth = known sunday 2457280 (omega arith) (inl refl) n5776 (rw n5775) _ (stretch-from 1 5775 2456926 2457280 (inl refl) (omega arith) n5775 n5776 2456929 (omega arith) (omega arith)) refl in
+    let one = known (on 2452186 1 5762 1 16 2452189 1 (pos 3) 338) 2452525 (omega arith) (inl refl) n5763 (rw n5762) _ (stretch-from 1 5762 2452171 2452525 (inl refl) (omega arith) n5762 n5763 2452186 (omega arith) (omega arith)) refl in
+    let guest = known (on 2452186 2 5762 1 16 2452185 2 (negsuc 0) 338) 2452525 (omega arith) (inr refl) n5763 (rw n5762) _ (stretch-from 2 5762 2452171 2452525 (inr refl) (omega arith) n5762 n5763 2452186 (omega arith) (omega arith)) refl in
+    let begin = known firstOfAll 348353 (omega arith) (inl refl) n2 (rw n1) _ (stretch-from 1 1 347998 348353 (inl refl) (omega arith) n1 n2 347998 (omega arith) (omega arith)) refl in
+    let sabbath = known lastSaturday 4000076 (omega arith) (inr refl) n10000 (rw (n9999, l9999)) _ (stretch-from 2 9999 3999723 4000076 (inr refl) (omega arith) n9999 n10000 4000071 (omega arith) (omega arith)) refl in
+    let l1-1 = known (onLast 4000072 1 9999 13 26 3) 4000076 (omega arith) (inl refl) n10000 (rw (n9999, l9999)) _ (stretch-from 1 9999 3999723 4000076 (inl refl) (omega arith) n9999 n10000 4000072 (omega arith) (omega arith)) refl in
+    let l1-2 = known (onLast 4000072 2 9999 13 26 3) 4000076 (omega arith) (inr refl) n10000 (rw (n9999, l9999)) _ (stretch-from 2 9999 3999723 4000076 (inr refl) (omega arith) n9999 n10000 4000072 (omega arith) (omega arith)) refl in
+    let l2-1 = known (onLast 4000073 1 9999 13 27 2) 4000076 (omega arith) (inl refl) n10000 (rw (n9999, l9999)) _ (stretch-from 1 9999 3999723 4000076 (inl refl) (omega arith) n9999 n10000 4000073 (omega arith) (omega arith)) refl in
+    let l2-2 = known (onLast 4000073 2 9999 13 27 2) 4000076 (omega arith) (inr refl) n10000 (rw (n9999, l9999)) _ (stretch-from 2 9999 3999723 4000076 (inr refl) (omega arith) n9999 n10000 4000073 (omega arith) (omega arith)) refl in
+    let l3-1 = known (onLast 4000074 1 9999 13 28 1) 4000076 (omega arith) (inl refl) n10000 (rw (n9999, l9999)) _ (stretch-from 1 9999 3999723 4000076 (inl refl) (omega arith) n9999 n10000 4000074 (omega arith) (omega arith)) refl in
+    let l3-2 = known (onLast 4000074 2 9999 13 28 1) 4000076 (omega arith) (inr refl) n10000 (rw (n9999, l9999)) _ (stretch-from 2 9999 3999723 4000076 (inr refl) (omega arith) n9999 n10000 4000074 (omega arith) (omega arith)) refl in
+    let l4-1 = known lastOfAll 4000076 (omega arith) (inl refl) n10000 (rw (n9999, l9999)) _ (stretch-from 1 9999 3999723 4000076 (inl refl) (omega arith) n9999 n10000 4000075 (omega arith) (omega arith)) refl in
+    let l4-2 = known (onLast 4000075 2 9999 13 29 0) 4000076 (omega arith) (inr refl) n10000 (rw (n9999, l9999)) _ (stretch-from 2 9999 3999723 4000076 (inr refl) (omega arith) n9999 n10000 4000075 (omega arith) (omega arith)) refl in
     let last-on = on-to lastSaturday (onLast 4000072 2 9999 13 26 3) sabbath l1-2 refl refl in
     let over = on-to eve newYear5775 eve' first refl refl in
     let past = on-to saturday sunday third fourth refl refl in
@@ -146,6 +153,7 @@ words-fixed =
     let calls : backOf (nextOf (nextOf (setTo (nextOf (nextOf (setTo (nextOf zeros .after) 1 2456925 .after) .after) .after) 3 2456925 .after) .after) .after) .after ≡ saturday =
     rw (next-refused zeros refl, set-to zeros eve eve', over, on-1, wing-refused tishri2 3 2456925 refl, on-2, past, back-again) in
     record {
+      new = refl;
       a-set = (set-to zeros eve eve', set-to zeros newYear5775 first, set-to eve saturday third, set-to zeros sunday fourth);
       both-wings = (set-to zeros _ one, set-to zeros _ guest);
       ends = (set-to zeros firstOfAll begin, set-to zeros lastSaturday sabbath);
@@ -174,4 +182,5 @@ words-fixed =
         day-refused eve 2 4000076 refl refl,
       );
       no-move = (next-refused lastOfAll refl, back-refused firstOfAll refl, next-refused zeros refl, back-refused zeros refl);
+      spoilt = (spoilt-on, spoilt-back);
     }

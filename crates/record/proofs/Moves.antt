@@ -2,16 +2,14 @@
 use mathlib.Core.Path.{_≡_, refl, sym, subst, _∙_}
 use mathlib.Core.Bool.{Bool, true, false, not, _&&_, _||_, cond, false≢true}
 use mathlib.Core.Logic.{_⊎_, inl, inr, ⊎-elim}
-use Prim.Native.Nat.{ℕ, _+_, _-_, _≤_, _<_}
+use Prim.Native.Nat.{ℕ, _+_, _-_, _<_}
 use native.Mathlib.Omega.{arith}
-use borrow.Author.Tests.{eqb-true, ltb-true, leb-true, not-true}
+use borrow.Author.Tests.{eqb-true, ltb-true, leb-true}
 use lib.Dec.{eqb, leb, ltb}
-use Rattle.laws.specs.Promise.{_else_, AllMet}
 use Rattle.laws.proofs.Tests.{and-left, and-right}
 use Rattle.laws.proofs.Promises.{ranged, let-pass}
 use Rattle.days.specs.Range.{firstDay, lastDay, InRange}
 use Rattle.newyear.specs.NewYear.{newYear}
-use Rattle.hebrew.specs.Dates.{dateOf}
 use Rattle.hebrew.proofs.Neighbours.{date-on, date-before}
 use Rattle.rest.specs.Table.{isRest, restDay}
 use Rattle.rest.specs.Wings.{IsWing, tableOf}
@@ -20,7 +18,7 @@ use Rattle.stretch.specs.Answers.{wingStretch}
 use Rattle.stretch.proofs.Answers.{stretch-promised}
 use Rattle.stretch.proofs.Neighbours.{stretch-is, still-for, already-for}
 use Rattle.record.specs.Record.{datedOf, afresh}
-use Rattle.record.specs.Steps.{sameMonthOn, dateOn, sameMonthBack, dateBack, lasts, kept, stretchOnward, rests, keptBack, stretchBackward, movedOn, movedBack}
+use Rattle.record.specs.Steps.{sameMonthOn, dateOn, sameMonthBack, dateBack, hasStretch, lasts, kept, stretchOnward, rests, keptBack, stretchBackward, recordOn, recordBack}
 use Rattle.record.specs.declared.DayRecord.{DayRecord}
 use Rattle.record.proofs.Told.{afresh-told}
 
@@ -46,9 +44,8 @@ module _ (wing j : ℕ) (w : IsWing wing) (i : InRange j) where
   told : (k : ℕ) → lasts r k ≡ true → StretchFor (tableOf wing) j (r .first) (r .length) × (k < r .first + r .length)
   unfolding lasts afresh
   told k e =
-      let sound = eqb (r .none) 0 && (leb (r .first) lastDay && leb (r .length) 3) in
-      let z = unflagged (wingStretch wing j .refusal) (and-left (eqb (r .none) 0) _ (and-left sound _ e)) in
-      let p = stretch-promised wing j in (p .values (p .done .0 z) .0, ltb-true _ _ (and-right sound _ e))
+      let z = unflagged (wingStretch wing j .refusal) (and-left (eqb (r .none) 0) _ (and-left (hasStretch r) _ e)) in
+      let p = stretch-promised wing j in (p .values (p .done .0 z) .0, ltb-true _ _ (and-right (hasStretch r) _ e))
 
   date-moves-on : dateOn r ≡ datedOf (j + 1)
   unfolding dateOn datedOf afresh
@@ -102,10 +99,10 @@ module _ (wing j : ℕ) (w : IsWing wing) (i : InRange j) where
           (⊎-elim (λ no. inl (sym (rests-is (j - 1) k) ∙ no)) (λ on. inr (leb-true _ _ on)) why)))
       go false e = refl
 
-  pub moves-on : InRange (j + 1) → movedOn r ≡ afresh wing (j + 1)
-  unfolding movedOn afresh
+  pub moves-on : InRange (j + 1) → recordOn r ≡ afresh wing (j + 1)
+  unfolding recordOn afresh
   moves-on k = rw (date-moves-on, stretch-moves-on k)
 
-  pub moves-back : InRange (j - 1) → movedBack r ≡ afresh wing (j - 1)
-  unfolding movedBack afresh
+  pub moves-back : InRange (j - 1) → recordBack r ≡ afresh wing (j - 1)
+  unfolding recordBack afresh
   moves-back k = rw (date-moves-back k, stretch-moves-back k)

@@ -2,7 +2,7 @@
 use mathlib.Core.Path.{_≡_, refl}
 use mathlib.Core.List.{_∷_}
 use mathlib.Core.Logic.{inl, inr, ⊎-elim}
-use Prim.Native.Nat.{ℕ, _+_, _-_, _≤_, _<_}
+use Prim.Native.Nat.{ℕ, _-_, _<_}
 use native.Mathlib.Omega.{arith}
 use Rattle.laws.specs.Promise.{_else_, AllMet, FirstUnmet}
 use Rattle.days.specs.Range.{lastDay, InRange}
@@ -45,7 +45,7 @@ module _ (wing j : ℕ) (w : IsWing wing) (i : InRange j) where
         remains = omega (arith, in-year .before);
         stretch = λ l.
             let m : AllMet (IsWing wing else 15 ∷ askedOfDay (tableOf wing) j) = (w, (i, (either-wing wing .ahead j i l, tt))) in
-            let v = p .values m in (rw (p .done .1 m), (v .0, v .1 .1));
+            let v = p .values m in (rw (p .done .1 m), v);
         last-four = λ l.
             let u : FirstUnmet (IsWing wing else 15 ∷ askedOfDay (tableOf wing) j) 9 = inr (w, inr (i, inl (none-left wing j w l, refl))) in
             (rw (p .refused 9 (omega arith) .1 u), p .besides 9 u);

@@ -4,6 +4,7 @@ use mathlib.Core.Path.{_≡_}
 use mathlib.Core.List.{[], _∷_}
 use Prim.Native.Nat.{ℕ}
 use lib.IntN.{ℤ, pos, negsuc}
+use Rattle.record.specs.Record.{newRecord}
 use Rattle.record.specs.Answers.{setTo, nextOf, backOf}
 use Rattle.record.specs.Promises.{set, next, back, afterAll}
 use Rattle.record.specs.declared.DayRecord.{DayRecord}
@@ -51,7 +52,12 @@ lastSaturday = on 4000071 2 9999 13 25 4000071 1 (pos 0) 4
 abbrev pub lastOfAll : DayRecord
 lastOfAll = onLast 4000075 1 9999 13 29 0
 
+-- One that no call made: of a wing that is none.
+abbrev pub ofNoWing : DayRecord
+ofNoWing = on 2456925 3 5774 13 29 2456926 3 (pos 1) 0
+
 pub record WordsFixed : Type 0 where
+  pub new : newRecord ≡ zeros
   pub a-set :
       Done (setTo zeros 1 2456925) eve × Done (setTo zeros 1 2456926) newYear5775
       × Done (setTo eve 1 2456928) saturday × Done (setTo zeros 1 2456929) sunday
@@ -69,9 +75,10 @@ pub record WordsFixed : Type 0 where
   pub moved : Done (nextOf eve) newYear5775 × Done (nextOf saturday) sunday × Done (nextOf lastSaturday) (onLast 4000072 2 9999 13 26 3)
   pub moved-back :
       Done (backOf newYear5775) eve × Done (backOf sunday) saturday × Done (backOf (onLast 4000072 2 9999 13 26 3)) lastSaturday
-  pub called : afterAll zeros (next ∷ set 1 2456925 ∷ next ∷ next ∷ set 3 2456925 ∷ next ∷ next ∷ back ∷ []) ≡ saturday
+  pub called : afterAll newRecord (next ∷ set 1 2456925 ∷ next ∷ next ∷ set 3 2456925 ∷ next ∷ next ∷ back ∷ []) ≡ saturday
   pub no-wing : Refused (setTo eve 0 2456925) 15 eve × Refused (setTo eve 3 347997) 15 eve × Refused (setTo zeros 0 0) 15 zeros
   pub no-day :
       Refused (setTo eve 1 347997) 4 eve × Refused (setTo eve 2 347997) 4 eve × Refused (setTo eve 1 4000076) 4 eve × Refused (setTo eve 2 4000076) 4 eve
   pub no-move :
       Refused (nextOf lastOfAll) 4 lastOfAll × Refused (backOf firstOfAll) 4 firstOfAll × Refused (nextOf zeros) 4 zeros × Refused (backOf zeros) 4 zeros
+  pub spoilt : Refused (nextOf ofNoWing) 15 ofNoWing × Refused (backOf ofNoWing) 15 ofNoWing

@@ -20,7 +20,7 @@ abbrev pub dateIn : DayRecord → Date
 dateIn r = record { year = r .year; month = r .month; day = r .date }
 
 -- The record tells of day j and the wing: its good date; as many days after it as there are before the next New Year; the
--- stretch for it, with days left, -2 to 6; on the last four days of the range zeros, and the flag.
+-- stretch for it, of one to three days, with days left, -2 to 6; on the last four days of the range zeros, and the flag.
 pub record RecordOf (wing j : ℕ) (r : DayRecord) : Type 0 where
   pub of-day : r .day ≡ j
   pub of-wing : r .wing ≡ wing
@@ -30,7 +30,8 @@ pub record RecordOf (wing j : ℕ) (r : DayRecord) : Type 0 where
   pub stretch :
       j ≤ lastDay - 4 →
       (r .none ≡ 0) × (StretchFor (tableOf wing) j (r .first) (r .length)
-      × ((r .«days_left» ≡ pos (r .first) -ℤ pos j) × ((negsuc 1 ≤ℤ r .«days_left») × (r .«days_left» ≤ℤ pos 6))))
+      × (((1 ≤ r .length) × (r .length ≤ 3))
+      × ((r .«days_left» ≡ pos (r .first) -ℤ pos j) × ((negsuc 1 ≤ℤ r .«days_left») × (r .«days_left» ≤ℤ pos 6)))))
   pub last-four : lastDay - 4 < j → (r .none ≡ 1) × ((r .first ≡ 0) × ((r .length ≡ 0) × (r .«days_left» ≡ pos 0)))
 
 -- The record as it would be worked out afresh for its day and wing.
@@ -53,12 +54,24 @@ PromisedMove r j =
     (λ m. (m .after ≡ afresh (r .wing) j) × RecordOf (r .wing) j (m .after))
     (λ n m. m .after ≡ r)
 
+abbrev pub PromisedNext : DayRecord → Type 0
+PromisedNext r = PromisedMove r (r .day + 1) (nextOf r)
+
+abbrev pub PromisedBack : DayRecord → Type 0
+PromisedBack r = PromisedMove r (r .day - 1) (backOf r)
+
 -- What holds of a move of any record, also of one that none of these calls made.
 abbrev pub PromisedOfAny : DayRecord → ℕ → Moved → Type 0
 PromisedOfAny r j =
     Promised (λ (m : Moved). m .refusal) ((InRange (r .day) × InRange j) else 4 ∷ IsWing (r .wing) else 15 ∷ [])
     (λ m. (m .after .day ≡ j) × (m .after .wing ≡ r .wing))
     (λ n m. m .after ≡ r)
+
+abbrev pub PromisedNextOfAny : DayRecord → Type 0
+PromisedNextOfAny r = PromisedOfAny r (r .day + 1) (nextOf r)
+
+abbrev pub PromisedBackOfAny : DayRecord → Type 0
+PromisedBackOfAny r = PromisedOfAny r (r .day - 1) (backOf r)
 
 -- The calls, and a record after one of them and after several.
 pub data Call : Type 0 where
@@ -81,5 +94,5 @@ NewOrAfresh r = (r ≡ newRecord) ⊎ Afresh r
 
 pub record AfterAnyCalls (calls : List Call) : Type 0 where
   pub new-or-afresh : NewOrAfresh (afterAll newRecord calls)
-  pub then-next : let r = afterAll newRecord calls in PromisedMove r (r .day + 1) (nextOf r)
-  pub then-back : let r = afterAll newRecord calls in PromisedMove r (r .day - 1) (backOf r)
+  pub then-next : PromisedNext (afterAll newRecord calls)
+  pub then-back : PromisedBack (afterAll newRecord calls)

@@ -1,5 +1,6 @@
 -- How a record is moved: from what it holds, as far as that goes. That a record worked out afresh comes to its neighbour's is
--- proved. What a record tells is not taken on trust: a number that no record of a day has is worked out anew.
+-- proved. Any record may be moved: a number that is counted with is looked at first, so that no sum leaves 64 bits; the others
+-- are passed on.
 use mathlib.Core.Bool.{Bool, _&&_, _||_, not, cond}
 use Prim.Native.Nat.{ℕ, _+_, _-_}
 use lib.Dec.{eqb, leb, ltb}
@@ -35,9 +36,12 @@ dateBack r =
     (record { year = r .year; month = r .month; date = r .date - 1; remaining = r .remaining + 1 })
     (datedOf (r .day - 1))
 
--- The record has a stretch, which is not over on day j.
+-- The record has a stretch, of numbers that a stretch can have; and it is not over on day j.
+abbrev pub hasStretch : DayRecord → Bool
+hasStretch r = eqb (r .none) 0 && (leb (r .first) lastDay && leb (r .length) 3)
+
 unfoldable pub lasts : DayRecord → ℕ → Bool
-lasts r j = (eqb (r .none) 0 && (leb (r .first) lastDay && leb (r .length) 3)) && ltb j (r .first + r .length)
+lasts r j = hasStretch r && ltb j (r .first + r .length)
 
 -- It is kept for day j: days left alone are others.
 abbrev pub kept : DayRecord → ℕ → StretchAnswer
@@ -58,8 +62,8 @@ keptBack r x = let j = r .day - 1 in lasts r j && (leb (r .first) j || not (rest
 unfoldable pub stretchBackward : DayRecord → Dated → StretchAnswer
 stretchBackward r x = let j = r .day - 1 in cond (keptBack r x) (kept r j) (wingStretch (r .wing) j)
 
-unfoldable pub movedOn : DayRecord → DayRecord
-movedOn r = joined (r .wing) (r .day + 1) (dateOn r) (stretchOnward r)
+unfoldable pub recordOn : DayRecord → DayRecord
+recordOn r = joined (r .wing) (r .day + 1) (dateOn r) (stretchOnward r)
 
-unfoldable pub movedBack : DayRecord → DayRecord
-movedBack r = joined (r .wing) (r .day - 1) (dateBack r) (stretchBackward r (dateBack r))
+unfoldable pub recordBack : DayRecord → DayRecord
+recordBack r = joined (r .wing) (r .day - 1) (dateBack r) (stretchBackward r (dateBack r))

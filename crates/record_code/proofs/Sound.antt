@@ -8,7 +8,7 @@ use lib.Dec.{eqb, leb, ltb}
 use Rattle.laws.proofs.Tests.{and-left, and-right}
 use Rattle.laws.proofs.Promises.{Catches, ranged, either, caught-alike}
 use Rattle.days.specs.Range.{firstDay, lastDay, InRange, outOfRange}
-use Rattle.record.specs.Steps.{sameMonthOn, sameMonthBack, lasts}
+use Rattle.record.specs.Steps.{sameMonthOn, sameMonthBack, hasStretch, lasts}
 use Rattle.record.specs.declared.DayRecord.{DayRecord}
 
 module _ (r : DayRecord) where
@@ -24,18 +24,14 @@ module _ (r : DayRecord) where
       let g = and-right b _ f in
       (ltb-true _ _ (and-left a _ e), (leb-true _ _ (and-left b _ f), (leb-true _ _ (and-left c _ g), ltb-true _ _ (and-right c _ g))))
 
-  -- What is looked at before a stretch's numbers are added.
-  abbrev pub told : Bool
-  told = eqb (r .none) 0 && (leb (r .first) lastDay && leb (r .length) 3)
-
-  pub told-sound : told ≡ true → (r .first ≤ lastDay) × (r .length ≤ 3)
+  pub told-sound : hasStretch r ≡ true → (r .first ≤ lastDay) × (r .length ≤ 3)
   told-sound e =
       let f = and-right (eqb (r .none) 0) _ e in
       (leb-true _ _ (and-left (leb (r .first) lastDay) _ f), leb-true _ _ (and-right (leb (r .first) lastDay) _ f))
 
   pub lasts-sound : (j : ℕ) → lasts r j ≡ true → (r .first ≤ lastDay) × (r .length ≤ 3)
   unfolding lasts
-  lasts-sound j e = told-sound (and-left told _ e)
+  lasts-sound j e = told-sound (and-left (hasStretch r) _ e)
 
 -- A day on, and a day back, within the range.
 below : (a b : ℕ) → Catches (ltb a b) (b ≤ a)

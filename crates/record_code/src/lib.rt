@@ -3,20 +3,20 @@
 //
 // Set, a day is worked out afresh. Moved, most of it stays: the date goes on within its month, and the stretch is kept while
 // it answers for the day. What does not stay is worked out afresh. A record that none of these calls made may hold any
-// numbers; what is taken from it is looked at first.
+// numbers; one that is counted with is looked at first.
 mod dates;
 mod stretches;
 
 ghost use mathlib.Core.Path.{_≡_};
 ghost use Rattle.record.specs.Record.{joined as Record·joined};
-ghost use Rattle.record.specs.Answers.{left as Answers·left, setTo, nextOf, backOf};
+ghost use Rattle.record.specs.Answers.{leaves as Answers·leaves, setTo, nextOf, backOf};
 use record::Dated;
 use record::DayRecord;
 use record::Moved;
 use stretch::StretchAnswer;
 
-fn left(refusal: u64, after: DayRecord) -> Moved
-    ensures { λ m. ⌜ m ≡ Answers·left refusal after ⌝ }
+fn leaves(refusal: u64, after: DayRecord) -> Moved
+    ensures { λ m. ⌜ m ≡ Answers·leaves refusal after ⌝ }
 {
     Moved { refusal, after }
 }
@@ -43,14 +43,14 @@ pub fn set(r: DayRecord, wing: u64, day: u64) -> Moved
     ensures { λ m. ⌜ m ≡ setTo r wing day ⌝ }
 {
     if rest_table::out_of_wings(wing) {
-        return left(15, r);
+        return leaves(15, r);
     }
     if days::out_of_range(day) {
-        return left(4, r);
+        return leaves(4, r);
     }
     let span = newyear_code::year_holding(day);
     let x = dates::dated_in(day, span);
-    left(
+    leaves(
         0,
         joined(wing, day, x, stretch_code::stretch_in(wing, day, span)),
     )
@@ -62,13 +62,13 @@ pub fn next(r: DayRecord) -> Moved
     ensures { λ m. ⌜ m ≡ nextOf r ⌝ }
 {
     if (r.day < days::FIRST_DAY) | (days::LAST_DAY <= r.day) {
-        return left(4, r);
+        return leaves(4, r);
     }
     if rest_table::out_of_wings(r.wing) {
-        return left(15, r);
+        return leaves(15, r);
     }
     let x = dates::on(r);
-    left(0, joined(r.wing, r.day + 1, x, stretches::on(r)))
+    leaves(0, joined(r.wing, r.day + 1, x, stretches::on(r)))
 }
 
 // The same, with the range's first day for its last.
@@ -76,11 +76,11 @@ pub fn back(r: DayRecord) -> Moved
     ensures { λ m. ⌜ m ≡ backOf r ⌝ }
 {
     if (r.day <= days::FIRST_DAY) | (days::LAST_DAY < r.day) {
-        return left(4, r);
+        return leaves(4, r);
     }
     if rest_table::out_of_wings(r.wing) {
-        return left(15, r);
+        return leaves(15, r);
     }
     let x = dates::back(r);
-    left(0, joined(r.wing, r.day - 1, x, stretches::back(r, x)))
+    leaves(0, joined(r.wing, r.day - 1, x, stretches::back(r, x)))
 }

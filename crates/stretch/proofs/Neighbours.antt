@@ -1,26 +1,23 @@
--- There is one stretch for a day; and that of a day is its neighbour's too, a day on until it is over, and a day back
--- unless the day before is the last of another.
-use mathlib.Core.Path.{_≡_, ap, sym, _∙_}
-use mathlib.Core.Bool.{Bool, true, false}
+-- There is one stretch for a day. A day's stretch is the next day's too until it is over, and the day before's unless
+-- that is the last day of another.
+use mathlib.Core.Path.{_≡_, ap, _∙_}
+use mathlib.Core.Bool.{Bool, false}
 use mathlib.Core.List.{List, _∷_}
 use mathlib.Core.Logic.{_⊎_, ⊎-elim, by-cases}
-use Prim.Native.Nat.{ℕ, _+_, _-_, _≤_, _<_}
+use Prim.Native.Nat.{ℕ, _+_, _≤_, _<_}
 use native.Mathlib.Omega.{arith}
 use native.Mathlib.Decide.{decLt}
-use lib.IntN.{ℤ, subℕ}
+use lib.IntN.{subℕ}
 use Rattle.laws.specs.Promise.{_else_, AllMet}
 use Rattle.laws.specs.Search.{Run}
 use Rattle.laws.proofs.Tests.{clash}
 use Rattle.laws.proofs.Signed.{minus}
-use Rattle.laws.proofs.Promises.{let-pass}
 use Rattle.days.specs.Range.{InRange}
 use Rattle.rest.specs.Table.{restDay}
 use Rattle.rest.specs.Wings.{IsWing, tableOf}
-use Rattle.rest.proofs.Wings.{wings}
 use Rattle.stretch.specs.Stretches.{StretchFor}
 use Rattle.stretch.specs.Promises.{askedOfDay}
 use Rattle.stretch.specs.Answers.{wingStretch}
-use Rattle.stretch.specs.declared.StretchAnswer.{StretchAnswer}
 use Rattle.stretch.proofs.Answers.{stretch-promised}
 
 -- Runs that begin on one day are as long.
@@ -51,7 +48,7 @@ module _ (table : List ℕ) (j f c : ℕ) where
   pub still-for : StretchFor table j f c → j + 1 < f + c → StretchFor table (j + 1) f c
   still-for s l = record { a-stretch = s .a-stretch; not-over = l; earliest = λ g d r k. s .earliest g d r (omega arith) }
 
-  -- A stretch that ends with day j is not for the day after it.
+  -- It is for day j too, unless another ends with day j.
   pub already-for : StretchFor table (j + 1) f c → (restDay table j ≡ false) ⊎ (f ≤ j) → StretchFor table j f c
   already-for s why =
       record {

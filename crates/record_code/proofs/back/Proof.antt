@@ -5,7 +5,7 @@ use Prim.Native.Nat.{_-_, _≤_}
 use native.Mathlib.Omega.{arith}
 use Rattle.days.specs.Range.{InRange, outOfRange}
 use Rattle.rest.specs.Wings.{outOfWings}
-use Rattle.record.specs.Steps.{movedBack}
+use Rattle.record.specs.Steps.{recordBack}
 use Rattle.record.specs.Answers.{backOf}
 use Rattle.record_code.proofs.Sound.{back-tested, back-within}
 use Rattle.record_code.proofs.back.Statement.{statement}
@@ -22,20 +22,20 @@ returns : tie.Need-returns
 unfolding backOf
 returns c =
     let t = c .before in
-    let r = t .before .before .before .args .r in rw (← back-tested (r .day), t .if1 .taken) (c .left .ensures)
+    let r = t .before .before .before .args .r in rw (← back-tested (r .day), t .if1 .taken) (c .leaves .ensures)
 
 returns-2 : tie.Need-returns-2
 unfolding backOf
 returns-2 c =
     let t = c .before in
-    let w = t .before in rw (passed (w .before), ← w .out-of-wings .ensures, t .if2 .taken) (c .left2 .ensures)
+    let w = t .before in rw (passed (w .before), ← w .out-of-wings .ensures, t .if2 .taken) (c .leaves2 .ensures)
 
 -- The record's wing is 1 or 2.
 named : (c : tie.Else2) → outOfWings (c .before .before .before .before .before .args .r .wing) ≡ false
 named c = sym (c .before .out-of-wings .ensures) ∙ c .if2 .left
 
-moved : (c : tie.After-joined) → c .joined .result ≡ movedBack (c .before .before .before .before .before .before .before .before .before .args .r)
-unfolding movedBack
+moved : (c : tie.After-joined) → c .joined .result ≡ recordBack (c .before .before .before .before .before .before .before .before .before .args .r)
+unfolding recordBack
 moved c =
     let s = c .before in
     let d = s .before .before in rw (← d .back .ensures .0, ← s .back2 .ensures) (c .joined .ensures)
@@ -44,7 +44,7 @@ returns-3 : tie.Need-returns-3
 unfolding backOf
 returns-3 c =
     let j = c .before in
-    let w = j .before .before .before .before in rw (passed (w .before .before), named w, ← moved j) (c .left3 .ensures)
+    let w = j .before .before .before .before in rw (passed (w .before .before), named w, ← moved j) (c .leaves3 .ensures)
 
 pub back-spec : {M : Type 1} → statement M
 back-spec =

@@ -5,7 +5,7 @@ use Prim.Native.Nat.{_+_, _<_, _^_}
 use native.Mathlib.Omega.{arith}
 use Rattle.days.specs.Range.{InRange, outOfRange}
 use Rattle.rest.specs.Wings.{outOfWings}
-use Rattle.record.specs.Steps.{movedOn}
+use Rattle.record.specs.Steps.{recordOn}
 use Rattle.record.specs.Answers.{nextOf}
 use Rattle.record_code.proofs.Sound.{on-tested, on-within}
 use Rattle.record_code.proofs.next.Statement.{statement}
@@ -22,20 +22,20 @@ returns : tie.Need-returns
 unfolding nextOf
 returns c =
     let t = c .before in
-    let r = t .before .before .before .args .r in rw (← on-tested (r .day), t .if1 .taken) (c .left .ensures)
+    let r = t .before .before .before .args .r in rw (← on-tested (r .day), t .if1 .taken) (c .leaves .ensures)
 
 returns-2 : tie.Need-returns-2
 unfolding nextOf
 returns-2 c =
     let t = c .before in
-    let w = t .before in rw (passed (w .before), ← w .out-of-wings .ensures, t .if2 .taken) (c .left2 .ensures)
+    let w = t .before in rw (passed (w .before), ← w .out-of-wings .ensures, t .if2 .taken) (c .leaves2 .ensures)
 
 -- The record's wing is 1 or 2.
 named : (c : tie.Else2) → outOfWings (c .before .before .before .before .before .args .r .wing) ≡ false
 named c = sym (c .before .out-of-wings .ensures) ∙ c .if2 .left
 
-moved : (c : tie.After-joined) → c .joined .result ≡ movedOn (c .before .before .before .before .before .before .before .before .before .args .r)
-unfolding movedOn
+moved : (c : tie.After-joined) → c .joined .result ≡ recordOn (c .before .before .before .before .before .before .before .before .before .args .r)
+unfolding recordOn
 moved c =
     let s = c .before in
     let d = s .before .before in rw (← d .on .ensures, ← s .on2 .ensures) (c .joined .ensures)
@@ -44,7 +44,7 @@ returns-3 : tie.Need-returns-3
 unfolding nextOf
 returns-3 c =
     let j = c .before in
-    let w = j .before .before .before .before in rw (passed (w .before .before), named w, ← moved j) (c .left3 .ensures)
+    let w = j .before .before .before .before in rw (passed (w .before .before), named w, ← moved j) (c .leaves3 .ensures)
 
 pub next-spec : {M : Type 1} → statement M
 next-spec =

@@ -29,7 +29,7 @@ unfolding setTo
 returns-3 c =
     let j = c .before in
     let i = j .before .before .before .before in
-    let o = i .before in rw (named (o .before), ← o .out-of-range .ensures, i .if2 .left, ← worked j) (c .left3 .ensures)
+    let o = i .before in rw (named (o .before), ← o .out-of-range .ensures, i .if2 .left, ← worked j) (c .leaves3 .ensures)
 
 pub set-spec : {M : Type 1} → statement M
 unfolding setTo
@@ -38,12 +38,12 @@ set-spec =
     (tie.spec
     (search needs)
     (search needs)
-    (λ c. let t = c .before in rw (← t .before .out-of-wings .ensures, t .if1 .taken) (c .left .ensures))
+    (λ c. let t = c .before in rw (← t .before .out-of-wings .ensures, t .if1 .taken) (c .leaves .ensures))
     (search needs)
     (search needs)
     (λ c.
     let t = c .before in
-    let r = t .before in rw (named (r .before), ← r .out-of-range .ensures, t .if2 .taken) (c .left2 .ensures))
+    let r = t .before in rw (named (r .before), ← r .out-of-range .ensures, t .if2 .taken) (c .leaves2 .ensures))
     (λ c κs. ranged c)
     (λ c κs. (ranged (c .before), c .year-holding .ensures))
     (λ c κs. (ranged (c .before .before), c .before .year-holding .ensures))

@@ -1,7 +1,7 @@
 use borrow.Author.Needs.{needs}
 use mathlib.Core.Path.{_≡_, sym, _∙_}
 use mathlib.Core.Bool.{false}
-use Rattle.days.specs.Range.{InRange, outOfRange}
+use Rattle.days.specs.Range.{InRange}
 use Rattle.days.proofs.InRange.{in-range}
 use Rattle.rest.specs.Wings.{outOfWings}
 use Rattle.stretch.specs.Answers.{stretchAnswer}
