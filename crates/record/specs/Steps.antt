@@ -36,7 +36,7 @@ dateBack r =
     (record { year = r .year; month = r .month; date = r .date - 1; remaining = r .remaining + 1 })
     (datedOf (r .day - 1))
 
--- The record has a stretch, of numbers that a stretch can have; and it is not over on day j.
+-- The record has a stretch, with numbers no larger than those of one in range; and it is not over on day j.
 abbrev pub hasStretch : DayRecord → Bool
 hasStretch r = eqb (r .none) 0 && (leb (r .first) lastDay && leb (r .length) 3)
 

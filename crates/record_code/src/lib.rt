@@ -50,10 +50,8 @@ pub fn set(r: DayRecord, wing: u64, day: u64) -> Moved
     }
     let span = newyear_code::year_holding(day);
     let x = dates::dated_in(day, span);
-    leaves(
-        0,
-        joined(wing, day, x, stretch_code::stretch_in(wing, day, span)),
-    )
+    let s = stretch_code::stretch_in(wing, day, span.new_year, span.length);
+    leaves(0, joined(wing, day, x, s))
 }
 
 // Refusal 4 for a record whose day is outside the range, or its last day; 15 for a wing that is neither 1 nor 2, which no

@@ -2,14 +2,12 @@
 // of one year: it walks through their dates from one to the next and asks each whether it is a rest day.
 mod runs;
 
-use newyear_code::Span;
 use stretch::StretchAnswer;
 ghost use mathlib.Core.Path.{_≡_};
 ghost use Prim.Native.Nat.{_≤_};
 ghost use lib.IntN.{subℕ};
 ghost use Rattle.days.specs.Range.{InRange};
-ghost use Rattle.newyear.specs.NewYear.{yearOf};
-ghost use Rattle.newyear_code.specs.Spans.{Spans};
+ghost use Rattle.newyear.specs.NewYear.{newYear, yearLength, yearOf};
 ghost use Rattle.rest.specs.Wings.{tableOf};
 ghost use Rattle.stretch.specs.Answers.{noStretch, stretchAnswer, wingStretch};
 
@@ -32,15 +30,14 @@ fn refused(number: u64) -> StretchAnswer
     }
 }
 
-// A step, for a day in range and the span of its year. The caller has seen that it is a wing. Refusal 9 where no stretch in
-// range ends on or after the day.
-pub fn stretch_in(wing: u64, day: u64, span: Span) -> StretchAnswer
-    requires { ⌜ (InRange day) × (Spans (yearOf day) span) ⌝ }
+// A step, for a day in range, by the New Year and the length of its year. The caller has seen that it is a wing. Refusal 9
+// where no stretch in range ends on or after the day.
+pub fn stretch_in(wing: u64, day: u64, new_year: u64, length: u64) -> StretchAnswer
+    requires { ⌜ (InRange day) × ((«new_year» ≡ newYear (yearOf day)) × (length ≡ yearLength (yearOf day))) ⌝ }
     ensures { λ r. ⌜ r ≡ stretchAnswer (tableOf wing) day ⌝ }
 {
-    let weekday = days::weekday_of(span.new_year);
-    let run = runs::run_for(wing, weekday, span.length, day - span.new_year);
-    let first = span.new_year + run.first;
+    let run = runs::run_for(wing, days::weekday_of(new_year), length, day - new_year);
+    let first = new_year + run.first;
     if days::LAST_DAY < first {
         return refused(9);
     }
@@ -63,5 +60,6 @@ pub fn stretch(wing: u64, day: u64) -> StretchAnswer
     if days::out_of_range(day) {
         return refused(4);
     }
-    stretch_in(wing, day, newyear_code::year_holding(day))
+    let span = newyear_code::year_holding(day);
+    stretch_in(wing, day, span.new_year, span.length)
 }

@@ -46,7 +46,7 @@ set-spec =
     let r = t .before in rw (named (r .before), ← r .out-of-range .ensures, t .if2 .taken) (c .leaves2 .ensures))
     (λ c κs. ranged c)
     (λ c κs. (ranged (c .before), c .year-holding .ensures))
-    (λ c κs. (ranged (c .before .before), c .before .year-holding .ensures))
+    (λ c κs. let e = c .before .year-holding .ensures in (ranged (c .before .before), (e .begins, e .days)))
     (search needs)
     (search needs)
     returns-3)

@@ -32,5 +32,5 @@ stretch-spec =
     (search needs)
     returns-2
     (λ c κs. ranged c)
-    (λ c κs. (ranged (c .before), c .year-holding .ensures))
+    (λ c κs. (ranged (c .before), (c .year-holding .ensures .begins, c .year-holding .ensures .days)))
     (λ c. rw (named (c .before .before .before .before)) (c .stretch-in .ensures)))
