@@ -40,7 +40,7 @@ module _ (wing j : ℕ) (w : IsWing wing) (i : InRange j) where
   abbrev r : DayRecord
   r = afresh wing j
 
-  -- What a record's stretch tells that lasts.
+  -- What the record's stretch tells, if it lasts.
   told : (k : ℕ) → lasts r k ≡ true → StretchFor (tableOf wing) j (r .first) (r .length) × (k < r .first + r .length)
   unfolding lasts afresh
   told k e =

@@ -11,7 +11,8 @@ ghost use Rattle.newyear.specs.NewYear.{newYear, yearLength, yearOf};
 ghost use Rattle.rest.specs.Wings.{tableOf};
 ghost use Rattle.stretch.specs.Answers.{noStretch, stretchAnswer, wingStretch};
 
-// A step, for days near the range: first day minus the day asked, with its sign. Nowhere else can a number be below zero.
+// A step, for days near the range: first day minus the day asked, with its sign. No other number of a stretch, or of a
+// record, can be below zero.
 pub fn days_left(first: u64, day: u64) -> i64
     requires { ⌜ (first ≤ 5000000) × (day ≤ 5000000) ⌝ }
     ensures { λ r. ⌜ r ≡ subℕ first day ⌝ }
