@@ -24,7 +24,7 @@ fn fill(out: &mut [u64]) {
     }
 }
 
-fn list(of_stretches: bool, wing: u64, year: u64, out: &mut [u64]) -> rest::ListAnswer {
+fn list(of_stretches: bool, wing: u64, year: u64, out: &mut [u64]) -> lists::ListAnswer {
     if of_stretches {
         stretches_code::stretches(wing, year, out)
     } else {

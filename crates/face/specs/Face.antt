@@ -11,6 +11,7 @@ use Rattle.civil.specs.declared.CivilDay.{CivilDay}
 use Rattle.civil.specs.declared.CivilDate.{CivilDate}
 use Rattle.molad.specs.Answers.{moladAnswer}
 use Rattle.molad.specs.declared.MoladAnswer.{MoladAnswer}
+use Rattle.lists.specs.declared.ListAnswer.{ListAnswer}
 use Rattle.notice.specs.Answers.{noticeAnswer}
 use Rattle.notice.specs.declared.NoticeAnswer.{NoticeAnswer}
 use Rattle.newyear.specs.Answers.{newYearAnswer, yearAnswer, kindAnswer, yearOfDayAnswer}
@@ -24,7 +25,6 @@ use Rattle.hebrew.specs.declared.MonthAnswer.{MonthAnswer}
 use Rattle.hebrew.specs.declared.HebrewDay.{HebrewDay}
 use Rattle.hebrew.specs.declared.HebrewDate.{HebrewDate}
 use Rattle.rest.specs.Answers.{wingRestDays, wingRestDaysBuffer}
-use Rattle.rest.specs.declared.ListAnswer.{ListAnswer}
 use Rattle.stretch.specs.Answers.{wingStretch}
 use Rattle.stretches.specs.Answers.{wingStretches, wingStretchesBuffer}
 use Rattle.stretch.specs.declared.StretchAnswer.{StretchAnswer}

@@ -10,11 +10,11 @@ use lib.ListN.{length}
 use Rattle.laws.specs.Buffer.{Lent}
 use Rattle.laws.proofs.One.{one-result}
 use Rattle.laws.proofs.Promises.{restated}
+use Rattle.lists.specs.declared.ListAnswer.{ListAnswer}
 use Rattle.line.specs.Line.{firstLine, afterLine, IsNumber, decimal}
 use Rattle.line.proofs.Answers.{number-on-line-promised, by-figures}
 use Rattle.molad.specs.Years.{InYears}
 use Rattle.rest.specs.Wings.{IsWing}
-use Rattle.rest.specs.declared.ListAnswer.{ListAnswer}
 use Rattle.sheet.specs.Sheet.{mostYears, sheetSize, sheet}
 use Rattle.sheet.specs.Promises.{sheetRoom}
 use Rattle.sheet.proofs.Answers.{sheet-promised, sheet-lent}

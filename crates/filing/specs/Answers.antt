@@ -1,9 +1,9 @@
 -- What `sheet_on_lines` answers, and what it makes of the lent bytes.
 use mathlib.Core.List.{List}
 use Prim.Native.Nat.{ℕ}
+use Rattle.lists.specs.declared.ListAnswer.{ListAnswer}
 use Rattle.line.specs.Line.{afterLine}
 use Rattle.line.specs.Answers.{lineAnswer}
-use Rattle.rest.specs.declared.ListAnswer.{ListAnswer}
 use Rattle.sheet.specs.Answers.{wingSheet, wingSheetBuffer}
 
 -- The wing is on the input's first line, the first year on the second and how many years on the third. A line that is not

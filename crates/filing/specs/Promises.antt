@@ -6,10 +6,10 @@ use Prim.Native.Nat.{ℕ, _+_, _-_, _≤_}
 use lib.Dec.{eqb}
 use lib.ListN.{length}
 use Rattle.laws.specs.Promise.{Asked, _else_, Promised}
+use Rattle.lists.specs.declared.ListAnswer.{ListAnswer}
 use Rattle.line.specs.Line.{firstLine, afterLine, IsNumber, decimal}
 use Rattle.molad.specs.Years.{InYears}
 use Rattle.rest.specs.Wings.{IsWing}
-use Rattle.rest.specs.declared.ListAnswer.{ListAnswer}
 use Rattle.sheet.specs.Sheet.{mostYears, sheetSize, sheet}
 
 abbrev pub secondLine : List ℕ → List ℕ

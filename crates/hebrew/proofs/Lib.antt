@@ -1,5 +1,6 @@
 pub mod Answers
 pub mod Dates
+pub mod Rows
 pub mod Placed
 pub mod RoundTrip
 pub mod Weekdays

@@ -8,7 +8,7 @@ pub extern "C" fn bd_sheet_write(
     first_year: u64,
     years: u64,
     out: &mut [u8],
-) -> rest::ListAnswer
+) -> lists::ListAnswer
     ensures { λ r. ⌜ (r ≡ bdSheetWrite wing «first_year» years (now (out .entry))) × (now (out .exit) ≡ bdSheetWriteLeaves wing «first_year» years (now (out .entry))) ⌝ }
 {
     sheet_code::sheet_write(wing, first_year, years, out)

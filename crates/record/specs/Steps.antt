@@ -8,7 +8,7 @@ use lib.IntN.{subℕ}
 use Rattle.laws.specs.Runs.{elem}
 use Rattle.days.specs.Range.{lastDay}
 use Rattle.days.specs.Weekday.{weekday}
-use Rattle.rest.specs.Table.{row}
+use Rattle.hebrew.specs.Rows.{row}
 use Rattle.rest.specs.Wings.{tableOf}
 use Rattle.stretch.specs.Answers.{wingStretch}
 use Rattle.stretch.specs.declared.StretchAnswer.{StretchAnswer}

@@ -1,55 +1,32 @@
--- What a list of a year promises, and `rest_days` above all: each day of its list is a rest day of the year, in the
--- table's order; a day of the year is in the list exactly if its date is in the table; so a rest day is a Saturday or a
--- day of the list.
+-- What `rest_days` promises: each day of its list is a rest day of the year, in the table's order; a day of the year is in
+-- the list exactly if its date is in the table; so a rest day is a Saturday or a day of the list.
 use mathlib.Core.Path.{_≡_, refl}
 use mathlib.Core.Bool.{Bool, cond}
 use mathlib.Core.List.{List, [], _∷_}
 use Prim.Native.Nat.{ℕ, _≤_}
 use native.Mathlib.Omega.{arith}
-use borrow.Author.Tests.{ltb-true, ltb-false}
-use lib.Dec.{eqb, ltb}
+use lib.Dec.{eqb}
 use lib.ListN.{length, take}
 use Rattle.laws.specs.Promise.{_else_, Promised, SmallestAfter}
 use Rattle.laws.specs.Buffer.{Lent}
 use Rattle.laws.specs.Runs.{elem}
 use Rattle.laws.proofs.One.{one-result}
-use Rattle.laws.proofs.Stores.{list-written, lent-done, lent-unless}
-use Rattle.laws.proofs.Promises.{Catches, ranged, asks, answered, smallest-after}
-use Rattle.molad.specs.Years.{lastYear, InYears, outOfYears}
+use Rattle.laws.proofs.Stores.{list-written}
+use Rattle.laws.proofs.Promises.{smallest-after}
+use Rattle.molad.specs.Years.{InYears}
 use Rattle.hebrew.specs.Dates.{dayNumber}
+use Rattle.lists.specs.Lists.{noList}
+use Rattle.lists.specs.declared.ListAnswer.{ListAnswer}
+use Rattle.lists.proofs.Lists.{list-promised, list-lent}
 use Rattle.rest.specs.Table.{restDays}
 use Rattle.rest.specs.Wings.{IsWing, outOfWings, tableOf}
 use Rattle.rest.specs.Steps.{restOn, listRefusal}
 use Rattle.rest.specs.Promises.{RestDaysOf, restCount, KeptBy}
-use Rattle.rest.specs.Answers.{noList, listAnswer, listBuffer, restDaysAnswer, restDaysBuffer, wingRestDays, wingRestDaysBuffer}
-use Rattle.rest.specs.declared.ListAnswer.{ListAnswer}
+use Rattle.rest.specs.Answers.{restDaysAnswer, restDaysBuffer, wingRestDays, wingRestDaysBuffer}
 use Rattle.hebrew.specs.declared.YearDate.{YearDate}
 use Rattle.rest.proofs.Passed.{tables-pass}
 use Rattle.rest.proofs.Days.{rest-days-of}
 use Rattle.rest.proofs.Wings.{wing-promised, wing-lent, rest-count}
-
--- A buffer that is too short is caught.
-room : (buffer list : List ℕ) → Catches (ltb (length buffer) (length list)) (length list ≤ length buffer)
-room buffer list = record { passes = ltb-false _ _; catches = λ e m. omega (arith, ltb-true (length buffer) (length list) e) }
-
--- The answer: 1 and 10 are asked in turn, and 10 tells how many entries are wanted.
-pub list-promised :
-    (h : ℕ) (buffer list : List ℕ) (count : ℕ) →
-    Promised (λ (r : ListAnswer). r .refusal) (InYears h else 1 ∷ (length list ≤ length buffer) else 10 ∷ [])
-    (λ r. r .count ≡ count) (λ n r. r .count ≡ cond (eqb n 10) (length list) 0) (listAnswer h buffer list count)
-unfolding listAnswer
-list-promised h buffer list count =
-    asks (noList 1) (ranged 1 lastYear h) (omega arith) refl refl (λ _.
-    asks (record { refusal = 10; count = length list }) (room buffer list) (omega arith) refl refl (λ _. answered refl refl))
-
--- The buffer.
-pub list-lent : (h : ℕ) (buffer list : List ℕ) (count : ℕ) → Lent (listAnswer h buffer list count .refusal) list buffer (listBuffer h buffer list)
-unfolding listAnswer listBuffer
-list-lent h buffer list count =
-    let unless = lent-unless (λ (r : ListAnswer). r .refusal) in
-    unless (outOfYears h) (noList 1) _ list buffer _ (omega arith)
-    (unless (ltb (length buffer) (length list)) (record { refusal = 10; count = length list }) (record { refusal = 0; count = count }) list buffer _ (omega arith)
-    (lent-done 0 list buffer refl))
 
 -- The rest days of the year, eight or thirteen.
 pub rest-days-promised :
@@ -104,6 +81,3 @@ out-of-wings-one wing = one-result (outOfWings wing)
 
 pub list-refusal-one : (wing h r s : ℕ) → r ≡ listRefusal wing h → s ≡ listRefusal wing h → r ≡ s
 list-refusal-one wing h = one-result (listRefusal wing h)
-
-pub no-list-one : (n : ℕ) (r s : ListAnswer) → r ≡ noList n → s ≡ noList n → r ≡ s
-no-list-one n = one-result (noList n)

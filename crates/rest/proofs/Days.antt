@@ -7,23 +7,25 @@ use Prim.Native.Nat.{ℕ, _/_, _%_, _≤_, _<_}
 use native.Mathlib.Omega.{arith}
 use native.Mathlib.Decide.{ℕ-discrete, decLt}
 use borrow.Author.Tests.{eq-eqb, ne-eqb, ltb-true}
-use lib.Dec.{eqb, ltb, leb}
+use lib.Dec.{eqb, ltb}
 use Rattle.laws.specs.Runs.{eachOf, elem}
 use Rattle.laws.proofs.Tests.{and-left, and-right, each-at}
 use Rattle.laws.proofs.Promises.{ranged, let-pass}
 use Rattle.days.specs.Range.{firstDay, lastDay}
 use Rattle.molad.specs.Years.{lastYear}
 use Rattle.newyear.specs.NewYear.{yearLength, InYear}
-use Rattle.newyear.proofs.Lengths.{length-in, length-leap}
+use Rattle.newyear.proofs.Lengths.{length-in}
 use Rattle.newyear.proofs.YearOf.{year-is, year-in-range}
-use Rattle.hebrew.specs.Months.{monthLength}
-use Rattle.hebrew.specs.Dates.{GoodHebrewDate, dayNumber, dateOf}
+use Rattle.hebrew.specs.Dates.{dayNumber, dateOf}
+use Rattle.hebrew.specs.Rows.{row, rowDate, rowGood}
 use Rattle.hebrew.proofs.Placed.{month-short}
-use Rattle.hebrew.proofs.Dates.{adar-one, date-good, date-day, date-back, in-its-year, dates-rise-by-month, dates-rise-by-day}
-use Rattle.rest.specs.Table.{row, rowDate, inTable, isRest, restDay, restDays}
-use Rattle.rest.specs.Check.{rowsRise, rowGood, passes}
-use Rattle.rest.specs.Promises.{DaysRise, RestDaysOf}
-use Rattle.rest.proofs.Rows.{GoodRow, good-row, days-at, days-length}
+use Rattle.hebrew.proofs.Rows.{GoodRow, good-row, row-date}
+use Rattle.hebrew.proofs.Dates.{date-good, date-day, date-back, in-its-year, dates-rise-by-month, dates-rise-by-day}
+use Rattle.lists.specs.Lists.{DaysRise}
+use Rattle.rest.specs.Table.{inTable, isRest, restDay, restDays}
+use Rattle.rest.specs.Check.{rowsRise, passes}
+use Rattle.rest.specs.Promises.{RestDaysOf}
+use Rattle.rest.proofs.Rows.{days-at, days-length}
 use Rattle.rest.proofs.RestOfYear.{rows-rise, rows-good}
 
 -- The date of a day is in the year that the day lies in.
@@ -35,16 +37,6 @@ module _ (h : ℕ) (l : 1 ≤ h) (u : h ≤ lastYear) where
   abbrev len : ℕ
   len = yearLength h
 
-  -- A good row is a good date of the year.
-  row-date : (r : ℕ) → GoodRow len r → GoodHebrewDate (rowDate h r)
-  unfolding monthLength
-  row-date r g =
-      record {
-        of-years = (l, u);
-        of-year = (g .code, λ q. rw (← length-leap h l (omega arith)) (adar-one (leb 383 len) 0 0 (omega arith) (omega (arith, rw q at (g .day)))));
-        of-month = g .day;
-      }
-
   -- A day of the year has the row's day number exactly if it has its date.
   same-row : (j : ℕ) → InYear j h → (r : ℕ) → GoodRow len r → eqb j (dayNumber (rowDate h r)) ≡ eqb (row (dateOf j .month) (dateOf j .day)) r
   same-row j i r g =
@@ -55,7 +47,7 @@ module _ (h : ℕ) (l : 1 ≤ h) (u : h ≤ lastYear) where
       let short = month-short (yearLength (x .year)) (x .month) (length-in (x .year) (good .of-years .0) (omega (arith, good .of-years .1))) (good .of-year .0 .0) (good .of-year .0 .1) in
       by-cases (ℕ-discrete j (dayNumber (rowDate h r)))
       (λ q.
-      let b : dateOf j ≡ rowDate h r = rw q (date-back (rowDate h r) (row-date r g)) in
+      let b : dateOf j ≡ rowDate h r = rw q (date-back (rowDate h r) (row-date h r (l, u) g)) in
       let e : row (dateOf j .month) (dateOf j .day) ≡ r = rw b (omega arith) in
       rw (eq-eqb j _ q, eq-eqb _ r e))
       (λ q.
@@ -80,7 +72,7 @@ module _ (h : ℕ) (l : 1 ≤ h) (u : h ≤ lastYear) where
   of-the-year [] good j e = absurd (false≢true e)
   of-the-year (r ∷ table) good j e =
       by-cases (ℕ-discrete j (dayNumber (rowDate h r)))
-      (λ q. rw q (in-its-year (rowDate h r) (row-date r (good-row len r (and-left _ _ good)))))
+      (λ q. rw q (in-its-year (rowDate h r) (row-date h r (l, u) (good-row len r (and-left _ _ good)))))
       (λ q. of-the-year table (and-right (rowGood len r) _ good) j (rw (ne-eqb j _ q) at e))
 
   -- The days of rows that rise, rise.
@@ -91,8 +83,8 @@ module _ (h : ℕ) (l : 1 ≤ h) (u : h ≤ lastYear) where
   days-rise (r ∷ s ∷ table) up good =
       let p = ltb-true r s (and-left _ _ up) in
       let later = and-right (rowGood len r) _ good in
-      let g = row-date r (good-row len r (and-left _ _ good)) in
-      let k = row-date s (good-row len s (and-left _ _ later)) in
+      let g = row-date h r (l, u) (good-row len r (and-left _ _ good)) in
+      let k = row-date h s (l, u) (good-row len s (and-left _ _ later)) in
       let next : dayNumber (rowDate h r) < dayNumber (rowDate h s) =
       by-cases (decLt (r / 100) (s / 100))
       (λ q. dates-rise-by-month h _ _ _ _ g k q)
@@ -108,7 +100,7 @@ module _ (h : ℕ) (l : 1 ≤ h) (u : h ≤ lastYear) where
       record {
         as-many = days-length table h;
         rising = days-rise table (rows-rise table ok) good;
-        in-order = λ i p. rw (days-at table h i p) (date-back _ (row-date _ (good-row len _ (each-at table (rowGood len) good i p))));
+        in-order = λ i p. rw (days-at table h i p) (date-back _ (row-date h _ (l, u) (good-row len _ (each-at table (rowGood len) good i p))));
         rests =
             λ j e.
             let i = of-the-year table good j e in

@@ -9,9 +9,9 @@ use Rattle.newyear.specs.NewYear.{newYear, yearLength}
 use Rattle.newyear.proofs.Quick.{quick, newYear-quick}
 use Rattle.hebrew.specs.Months.{monthLength, daysBefore}
 use Rattle.hebrew.specs.Dates.{dayNumber}
+use Rattle.lists.specs.Lists.{listAnswer, listBuffer}
 use Rattle.rest.specs.Table.{restDays}
 use Rattle.rest.specs.Wings.{tableOf}
-use Rattle.rest.specs.Answers.{listAnswer, listBuffer}
 use Rattle.rest.specs.Fixed.{WordsFixed}
 
 pub words-fixed : WordsFixed

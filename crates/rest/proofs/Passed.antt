@@ -13,13 +13,14 @@ use Rattle.laws.proofs.Tests.{and-left, and-right, all, facts}
 use Rattle.newyear.specs.Kinds.{lengths, IsLength, kinds, everyKind}
 use Rattle.hebrew.specs.Months.{monthLength, daysBefore}
 use Rattle.hebrew.specs.Dates.{monthOf}
+use Rattle.hebrew.specs.Rows.{row, rowGood}
 use Rattle.hebrew.specs.Steps.{yearDate, tomorrow}
 use Rattle.hebrew.specs.declared.YearDate.{YearDate}
 use Rattle.hebrew.proofs.Walked.{tomorrow-is}
-use Rattle.rest.specs.Table.{row, restTable, guestTable}
+use Rattle.rest.specs.Table.{restTable, guestTable}
 use Rattle.rest.specs.Wings.{tableOf}
 use Rattle.rest.specs.Steps.{restOn, restAt}
-use Rattle.rest.specs.Check.{rowsRise, rowGood, four, passesIn, passes}
+use Rattle.rest.specs.Check.{rowsRise, four, passesIn, passes}
 use Rattle.rest.proofs.Tables.{of-both}
 
 -- The n days from this date on, where a, b and c tell of the three days before them: no four neighbouring days are all rest

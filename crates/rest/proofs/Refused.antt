@@ -5,10 +5,10 @@ use mathlib.Core.List.{List}
 use Prim.Native.Nat.{ℕ}
 use native.Mathlib.Omega.{arith}
 use Rattle.molad.specs.Years.{outOfYears}
+use Rattle.lists.specs.Lists.{noList}
+use Rattle.lists.specs.declared.ListAnswer.{ListAnswer}
 use Rattle.rest.specs.Wings.{outOfWings}
 use Rattle.rest.specs.Steps.{listRefusal}
-use Rattle.rest.specs.Answers.{noList}
-use Rattle.rest.specs.declared.ListAnswer.{ListAnswer}
 
 -- By what the wing's and the year's test say.
 abbrev number : Bool → Bool → ℕ

@@ -19,11 +19,12 @@ use Rattle.newyear.proofs.Lengths.{rises, length-in, year-passes}
 use Rattle.newyear.proofs.YearOf.{held, year-is, year-in-range, first}
 use Rattle.hebrew.specs.Months.{monthLength, daysBefore}
 use Rattle.hebrew.specs.Dates.{dateOf, monthOf}
+use Rattle.hebrew.specs.Rows.{row, rowGood}
 use Rattle.hebrew.specs.Steps.{yearDate}
 use Rattle.hebrew.proofs.Placed.{month-is}
-use Rattle.rest.specs.Table.{row, isRest, restDay}
+use Rattle.rest.specs.Table.{isRest, restDay}
 use Rattle.rest.specs.Steps.{restAt}
-use Rattle.rest.specs.Check.{rowsRise, rowGood, four, passesIn, passes}
+use Rattle.rest.specs.Check.{rowsRise, four, passesIn, passes}
 
 -- A day is a Saturday by its own number, or by that of a New Year before it.
 saturdays : ℕ → Bool

@@ -13,11 +13,11 @@ use Rattle.laws.specs.Buffer.{Lent}
 use Rattle.laws.proofs.Tests.{within}
 use Rattle.laws.proofs.Stores.{lent-unless}
 use Rattle.laws.proofs.Promises.{Catches, asks}
+use Rattle.lists.specs.Lists.{noList}
+use Rattle.lists.specs.declared.ListAnswer.{ListAnswer}
 use Rattle.rest.specs.Table.{restTable, guestTable, restDays}
 use Rattle.rest.specs.Wings.{IsWing, outOfWings, tableOf, ofWing}
-use Rattle.rest.specs.Answers.{noList}
 use Rattle.rest.specs.Promises.{restCount}
-use Rattle.rest.specs.declared.ListAnswer.{ListAnswer}
 
 -- A wing that is neither 1 nor 2 is caught.
 pub wings : (wing : ℕ) → Catches (outOfWings wing) (IsWing wing)

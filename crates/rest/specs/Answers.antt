@@ -1,30 +1,11 @@
--- What `rest_days` answers, and what it makes of a lent buffer; and so for every list of a year. First by a table; then
--- for the wing that is named.
-use mathlib.Core.Bool.{cond}
+-- What `rest_days` answers, and what it makes of a lent buffer. First by a table; then for the wing that is named.
 use mathlib.Core.List.{List}
 use Prim.Native.Nat.{ℕ}
-use lib.Dec.{ltb}
 use lib.ListN.{length}
-use Rattle.laws.specs.Buffer.{overwrite}
-use Rattle.molad.specs.Years.{outOfYears}
+use Rattle.lists.specs.Lists.{noList, listAnswer, listBuffer}
+use Rattle.lists.specs.declared.ListAnswer.{ListAnswer}
 use Rattle.rest.specs.Table.{restDays}
 use Rattle.rest.specs.Wings.{ofWing}
-use Rattle.rest.specs.declared.ListAnswer.{ListAnswer}
-
-abbrev pub noList : ℕ → ListAnswer
-noList n = record { refusal = n; count = 0 }
-
--- A list for a year into a lent buffer. Refusal 1: the year lies outside 1..9999. 10: the buffer is too short, and the
--- answer tells how many entries are wanted. Else it tells the count.
-unfoldable pub listAnswer : ℕ → List ℕ → List ℕ → ℕ → ListAnswer
-listAnswer h buffer list count =
-    cond (outOfYears h) (noList 1)
-    (cond (ltb (length buffer) (length list)) (record { refusal = 10; count = length list })
-    (record { refusal = 0; count = count }))
-
--- A refusal leaves the buffer as it was.
-unfoldable pub listBuffer : ℕ → List ℕ → List ℕ → List ℕ
-listBuffer h buffer list = cond (outOfYears h) buffer (cond (ltb (length buffer) (length list)) buffer (overwrite buffer list))
 
 -- One entry for each rest day.
 abbrev pub restDaysAnswer : List ℕ → ℕ → List ℕ → ListAnswer

@@ -3,12 +3,11 @@
 -- the rest days of such a table have in common is shown for any table that passes.
 use mathlib.Core.Bool.{Bool, true, _&&_, not}
 use mathlib.Core.List.{List, [], _∷_}
-use Prim.Native.Nat.{ℕ, _+_, _-_, _/_, _%_}
+use Prim.Native.Nat.{ℕ, _+_, _-_}
 use lib.Dec.{ltb}
-use Rattle.laws.specs.Runs.{every, eachOf, elem, outside}
+use Rattle.laws.specs.Runs.{every, eachOf, elem}
 use Rattle.newyear.specs.Kinds.{everyKind}
-use Rattle.hebrew.specs.Months.{monthLength}
-use Rattle.rest.specs.Table.{row}
+use Rattle.hebrew.specs.Rows.{row, rowGood}
 use Rattle.rest.specs.Steps.{restAt}
 
 -- Each row comes after the one before it, by month code and day.
@@ -16,10 +15,6 @@ unfoldable pub rowsRise : List ℕ → Bool
 rowsRise [] = true
 rowsRise (r ∷ []) = true
 rowsRise (r ∷ s ∷ table) = ltb r s && rowsRise (s ∷ table)
-
--- The row is a date of a year of this length.
-unfoldable pub rowGood : ℕ → ℕ → Bool
-rowGood len r = not (outside 1 13 (r / 100)) && not (outside 1 (monthLength len (r / 100)) (r % 100))
 
 -- Four neighbouring days, from x on, are all rest days.
 abbrev pub four : (ℕ → Bool) → ℕ → Bool

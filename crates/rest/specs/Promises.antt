@@ -7,15 +7,11 @@ use lib.Dec.{eqb}
 use lib.ListN.{length, getD}
 use Rattle.laws.specs.Runs.{elem}
 use Rattle.days.specs.Weekday.{weekday}
-use Rattle.hebrew.specs.Dates.{dateOf}
 use Rattle.newyear.specs.NewYear.{InYear}
-use Rattle.rest.specs.Table.{rowDate, inTable, restDay}
-
--- Each day comes after the one before it.
-abbrev pub DaysRise : List ℕ → Type 0
-DaysRise [] = Unit {0}
-DaysRise (j ∷ []) = Unit {0}
-DaysRise (j ∷ k ∷ list) = (j < k) × DaysRise (k ∷ list)
+use Rattle.hebrew.specs.Dates.{dateOf}
+use Rattle.hebrew.specs.Rows.{rowDate}
+use Rattle.lists.specs.Lists.{DaysRise}
+use Rattle.rest.specs.Table.{inTable, restDay}
 
 pub record RestDaysOf (table : List ℕ) (h : ℕ) (list : List ℕ) : Type 0 where
   -- In the table's order, and rising.

@@ -7,8 +7,8 @@ use Prim.Native.Nat.{ℕ, _+_, _%_}
 use lib.Dec.{eqb}
 use Rattle.laws.specs.Runs.{elem}
 use Rattle.molad.specs.Years.{outOfYears}
+use Rattle.hebrew.specs.Rows.{row}
 use Rattle.hebrew.specs.Steps.{yearDate}
-use Rattle.rest.specs.Table.{row}
 use Rattle.rest.specs.Wings.{outOfWings}
 use Rattle.hebrew.specs.declared.YearDate.{YearDate}
 

@@ -1,20 +1,13 @@
 -- The rest days: a table of month code and day for each wing, and every Saturday.
 use mathlib.Core.Bool.{Bool, _&&_, _||_, not}
 use mathlib.Core.List.{List, [], _∷_}
-use Prim.Native.Nat.{ℕ, _+_, _*_, _/_, _%_}
+use Prim.Native.Nat.{ℕ}
 use lib.Dec.{eqb}
 use Rattle.laws.specs.Runs.{elem}
 use Rattle.days.specs.Range.{outOfRange}
 use Rattle.days.specs.Weekday.{weekday}
 use Rattle.hebrew.specs.Dates.{Date, dayNumber, dateOf}
-
--- A row of a table is a month code and a day, written as one number: 10_06 is 6 Sivan. No month has a hundred days, so
--- that a row is one date, and its month and day are the row's quotient and remainder by 100.
-abbrev pub row : ℕ → ℕ → ℕ
-row month day = 100 * month + day
-
-abbrev pub rowDate : ℕ → ℕ → Date
-rowDate h r = record { year = h; month = r / 100; day = r % 100 }
+use Rattle.hebrew.specs.Rows.{row, rowDate}
 
 -- Wing 1's eight rest days, document 01's, stand in a table in this order: Tishri 1, 2, 10, 15, 22; Nisan 15, 21; Sivan 6.
 abbrev pub restTable : List ℕ

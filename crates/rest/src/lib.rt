@@ -4,9 +4,3 @@
 // a rest day of a wing if it is a Saturday or its month code and day are a row of the wing's table.
 //
 // Here stand the rules, in specs/, and what follows from them. The code is in `rest_code`.
-
-#[repr(C)]
-pub struct ListAnswer {
-    pub refusal: u64,
-    pub count: u64,
-}

@@ -13,9 +13,9 @@ use Rattle.laws.proofs.One.{one-result}
 use Rattle.laws.proofs.Stores.{list-written, lent-done, lent-unless}
 use Rattle.laws.proofs.Promises.{Catches, ranged, either, asks, answered}
 use Rattle.molad.specs.Years.{lastYear}
+use Rattle.lists.specs.Lists.{noList}
+use Rattle.lists.specs.declared.ListAnswer.{ListAnswer}
 use Rattle.rest.specs.Wings.{IsWing}
-use Rattle.rest.specs.Answers.{noList}
-use Rattle.rest.specs.declared.ListAnswer.{ListAnswer}
 use Rattle.rest.proofs.Wings.{wing-promised, wing-lent}
 use Rattle.sheet.specs.Sheet.{mostYears, sheetSize, sheet}
 use Rattle.sheet.specs.Answers.{endsOutside, sheetAnswer, sheetBuffer, wingSheet, wingSheetBuffer}

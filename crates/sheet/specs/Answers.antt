@@ -7,9 +7,9 @@ use lib.ListN.{length}
 use Rattle.laws.specs.Runs.{outside}
 use Rattle.laws.specs.Buffer.{overwrite}
 use Rattle.molad.specs.Years.{outOfYears}
+use Rattle.lists.specs.Lists.{noList}
+use Rattle.lists.specs.declared.ListAnswer.{ListAnswer}
 use Rattle.rest.specs.Wings.{ofWing}
-use Rattle.rest.specs.Answers.{noList}
-use Rattle.rest.specs.declared.ListAnswer.{ListAnswer}
 use Rattle.sheet.specs.Sheet.{mostYears, sheetSize, sheet}
 
 -- The first or the last of so many years lies outside 1..9999.

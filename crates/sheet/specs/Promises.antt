@@ -7,11 +7,11 @@ use lib.Dec.{eqb}
 use lib.ListN.{length}
 use Rattle.laws.specs.Joined.{joined, total}
 use Rattle.laws.specs.Promise.{Asked, _else_, Promised}
+use Rattle.lists.specs.declared.ListAnswer.{ListAnswer}
 use Rattle.layout.specs.Reading.{numberAt}
 use Rattle.molad.specs.Years.{InYears}
 use Rattle.newyear.specs.NewYear.{yearLength}
 use Rattle.rest.specs.Wings.{IsWing, tableOf}
-use Rattle.rest.specs.declared.ListAnswer.{ListAnswer}
 use Rattle.stretches.specs.Promises.{StretchesOf}
 use Rattle.sheet.specs.Sheet.{mostYears, sheetSize}
 

@@ -24,7 +24,7 @@ pub fn ends_outside(first_year: u64, years: u64) -> bool
 // The sheet of a wing for so many years, from the first year on. Refusal 15 for a wing that is neither 1 nor 2; 11 for
 // years that are not 1 to 100; 1 if the first or the last of them lies outside 1..9999; 10 for a buffer of too few bytes,
 // telling how many are wanted; else the answer tells how many were written.
-pub fn sheet_write(wing: u64, first_year: u64, years: u64, out: &mut [u8]) -> rest::ListAnswer
+pub fn sheet_write(wing: u64, first_year: u64, years: u64, out: &mut [u8]) -> lists::ListAnswer
     ensures { λ r. ⌜ (r ≡ wingSheet wing «first_year» years (now (out .entry))) × (now (out .exit) ≡ wingSheetBuffer wing «first_year» years (now (out .entry))) ⌝ }
 {
     if rest_table::out_of_wings(wing) {
@@ -39,14 +39,14 @@ pub fn sheet_write(wing: u64, first_year: u64, years: u64, out: &mut [u8]) -> re
     let rows = sheet_years::count_rows(wing, first_year, years);
     let size = 16 + 8 * years + 6 * rows;
     if (out.len() as u64) < size {
-        return rest::ListAnswer {
+        return lists::ListAnswer {
             refusal: 10,
             count: size,
         };
     }
     layout_code::put_header(out, years, first_year, rows);
     sheet_years::write_years(wing, first_year, years, out);
-    rest::ListAnswer {
+    lists::ListAnswer {
         refusal: 0,
         count: size,
     }

@@ -11,13 +11,13 @@ use Rattle.laws.specs.Buffer.{Lent, overwrite}
 use Rattle.laws.proofs.One.{one-result}
 use Rattle.laws.proofs.Stores.{list-written}
 use Rattle.laws.proofs.Promises.{smallest-after}
+use Rattle.lists.specs.Lists.{noList}
+use Rattle.lists.proofs.Lists.{list-promised, list-lent}
+use Rattle.lists.specs.declared.ListAnswer.{ListAnswer}
 use Rattle.rest.specs.Wings.{tableOf}
 use Rattle.rest.specs.Check.{passes}
-use Rattle.rest.specs.Answers.{noList}
 use Rattle.rest.proofs.Passed.{tables-pass}
 use Rattle.rest.proofs.Wings.{wing-promised, wing-lent}
-use Rattle.rest.proofs.Answers.{list-promised, list-lent}
-use Rattle.rest.specs.declared.ListAnswer.{ListAnswer}
 use Rattle.stretches.specs.Stretches.{stretchRows}
 use Rattle.stretches.specs.Promises.{StretchesOf, askedOfYear, StretchesTold, PromisedStretches}
 use Rattle.stretches.specs.Answers.{stretchesAnswer, stretchesBuffer, wingStretches, wingStretchesBuffer}

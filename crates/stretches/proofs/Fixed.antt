@@ -16,9 +16,9 @@ use Rattle.newyear.proofs.Quick.{quick, newYear-quick}
 use Rattle.hebrew.specs.Months.{monthLength, daysBefore}
 use Rattle.hebrew.specs.Dates.{monthOf}
 use Rattle.hebrew.specs.Steps.{yearDate, tomorrow}
+use Rattle.lists.specs.Lists.{listAnswer, listBuffer}
 use Rattle.rest.specs.Wings.{IsWing, tableOf}
 use Rattle.rest.specs.Steps.{restAt}
-use Rattle.rest.specs.Answers.{listAnswer, listBuffer}
 use Rattle.rest.proofs.Passed.{tables-pass}
 use Rattle.stretches.specs.Stretches.{stretchRows}
 use Rattle.stretches.specs.Steps.{runBefore, rowsAt}

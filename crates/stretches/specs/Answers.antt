@@ -2,9 +2,9 @@
 use mathlib.Core.List.{List}
 use Prim.Native.Nat.{ℕ, _/_}
 use lib.ListN.{length}
+use Rattle.lists.specs.Lists.{noList, listAnswer, listBuffer}
+use Rattle.lists.specs.declared.ListAnswer.{ListAnswer}
 use Rattle.rest.specs.Wings.{ofWing}
-use Rattle.rest.specs.Answers.{noList, listAnswer, listBuffer}
-use Rattle.rest.specs.declared.ListAnswer.{ListAnswer}
 use Rattle.stretches.specs.Stretches.{stretchRows}
 
 -- Two entries for each stretch.

@@ -9,10 +9,10 @@ use Rattle.laws.specs.Promise.{Asked, _else_, Promised}
 use Rattle.laws.specs.Search.{Run}
 use Rattle.molad.specs.Years.{InYears}
 use Rattle.newyear.specs.NewYear.{newYear}
+use Rattle.lists.specs.declared.ListAnswer.{ListAnswer}
 use Rattle.rest.specs.Table.{restDay}
 use Rattle.rest.specs.Wings.{IsWing, tableOf}
 use Rattle.rest.specs.Steps.{restAt}
-use Rattle.rest.specs.declared.ListAnswer.{ListAnswer}
 use Rattle.stretches.specs.Stretches.{stretchRows}
 use Rattle.stretches.specs.Steps.{rowsAt}
 

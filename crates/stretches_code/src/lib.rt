@@ -1,6 +1,6 @@
 // The code that answers which stretches of a wing's rest days a year has. No stretch crosses a New Year, so it walks through
 // the dates of the year from one to the next, and lists a run of rest days when it has ended.
-mod lists;
+mod writing;
 
 ghost use mathlib.Core.Path.{_≡_};
 ghost use Prim.Native.Nat.{_≤_};
@@ -23,13 +23,13 @@ pub fn year_rows(wing: u64, span: newyear_code::Span, out: &mut [u64]) -> usize
         × (now (out .exit) ≡ overwrite (now (out .entry)) (stretchRows (tableOf wing) (span .year)))) ⌝ }
 {
     let weekday = days::weekday_of(span.new_year);
-    lists::write_rows(wing, weekday, span.new_year, span.length, out)
+    writing::write_rows(wing, weekday, span.new_year, span.length, out)
 }
 
 // First day and length of each stretch that begins in the year, rising, two entries each. Refusal 15 for a wing that is
 // neither 1 nor 2; 1 for a year outside 1..9999; 10 for a buffer that is too short, telling how many entries are wanted;
 // else the answer tells how many stretches.
-pub fn stretches(wing: u64, year: u64, out: &mut [u64]) -> rest::ListAnswer
+pub fn stretches(wing: u64, year: u64, out: &mut [u64]) -> lists::ListAnswer
     ensures { λ r. ⌜ (r ≡ wingStretches wing year (now (out .entry))) × (now (out .exit) ≡ wingStretchesBuffer wing year (now (out .entry))) ⌝ }
 {
     let refusal = rest_code::list_refusal(wing, year);
@@ -39,13 +39,13 @@ pub fn stretches(wing: u64, year: u64, out: &mut [u64]) -> rest::ListAnswer
     let mut rows = [0u64; STRETCHES_ROOM];
     let wanted = year_rows(wing, newyear_code::year_span(year), &mut rows);
     if out.len() < wanted {
-        return rest::ListAnswer {
+        return lists::ListAnswer {
             refusal: 10,
             count: wanted as u64,
         };
     }
-    lists::copy(&rows[..wanted], out);
-    rest::ListAnswer {
+    writing::copy(&rows[..wanted], out);
+    lists::ListAnswer {
         refusal: 0,
         count: wanted as u64 / 2,
     }

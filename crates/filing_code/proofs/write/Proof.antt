@@ -3,7 +3,7 @@ use borrow.Author.Needs.{needs}
 use mathlib.Core.Path.{sym, ap, _∙_}
 use native.Mathlib.Omega.{arith}
 use lib.Seq.{length-take-le}
-use Rattle.rest.specs.declared.ListAnswer.{ListAnswer}
+use Rattle.lists.specs.declared.ListAnswer.{ListAnswer}
 use Rattle.filing.proofs.Answers.{written-in-room}
 use Rattle.filing_code.proofs.write.Statement.{statement}
 use Rattle.filing_code.proofs.write.Tie as tie

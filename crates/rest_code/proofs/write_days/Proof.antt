@@ -10,8 +10,9 @@ use Rattle.laws.proofs.Stores.{over-take}
 use Rattle.laws.proofs.Tests.{each-at}
 use Rattle.hebrew.specs.Dates.{dayNumber}
 use Rattle.rest.specs.Table.{restDays}
-use Rattle.rest.specs.Check.{rowGood}
-use Rattle.rest.proofs.Rows.{good-row, days-at, days-length}
+use Rattle.hebrew.specs.Rows.{rowGood}
+use Rattle.hebrew.proofs.Rows.{good-row}
+use Rattle.rest.proofs.Rows.{days-at, days-length}
 use Rattle.rest_code.proofs.write_days.Statement.{statement}
 use Rattle.rest_code.proofs.write_days.Tie as tie
 

@@ -9,7 +9,7 @@ use Rattle.laws.specs.Runs.{eachOf}
 use Rattle.newyear_code.specs.Spans.{Spans}
 use Rattle.newyear_code.specs.declared.span.Span.{Span}
 use Rattle.rest.specs.Wings.{tableOf}
-use Rattle.rest.specs.Check.{rowGood}
+use Rattle.hebrew.specs.Rows.{rowGood}
 use Rattle.rest.proofs.Passed.{tables-pass}
 use Rattle.rest.proofs.RestOfYear.{rows-good}
 use Rattle.rest.proofs.Tables.{first-table, guest-table}

@@ -9,9 +9,9 @@ use lib.Seq.{take-append-seam}
 use Rattle.laws.specs.Buffer.{overwrite}
 use Rattle.laws.proofs.Tests.{within}
 use Rattle.molad.specs.Years.{lastYear, outOfYears}
+use Rattle.lists.specs.Lists.{listAnswer, listBuffer}
 use Rattle.newyear_code.proofs.Spanned.{spans-own}
 use Rattle.rest.specs.Wings.{outOfWings, tableOf}
-use Rattle.rest.specs.Answers.{listAnswer, listBuffer}
 use Rattle.rest.proofs.Refused.{list-refused, list-passed}
 use Rattle.stretches.specs.Stretches.{stretchRows}
 use Rattle.stretches_code.proofs.stretches.Statement.{statement}

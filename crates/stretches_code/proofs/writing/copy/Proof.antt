@@ -6,8 +6,8 @@ use lib.ListN.{length as count, take, length-set}
 use lib.Seq.{take-all}
 use Rattle.laws.specs.Buffer.{overwrite}
 use Rattle.laws.proofs.Stores.{over-take}
-use Rattle.stretches_code.proofs.lists.copy.Statement.{statement}
-use Rattle.stretches_code.proofs.lists.copy.Tie as tie
+use Rattle.stretches_code.proofs.writing.copy.Statement.{statement}
+use Rattle.stretches_code.proofs.writing.copy.Tie as tie
 
 abbrev Inv-loop : tie.InvT-loop
 Inv-loop list out₀ i₀ out i = (i ≤ count list) × (count out ≡ count out₀) × (out ≡ overwrite out₀ (take i list))

@@ -19,8 +19,8 @@ use Rattle.stretches.specs.Steps.{runBefore, rowsAt}
 use Rattle.stretches.proofs.Growing.{ends, run-more, run-few, rows-yes, rows-no, rows-grow}
 use Rattle.stretches.proofs.OfKind.{rows-in-room}
 use Rattle.stretch.proofs.Walk.{walked-small, walked-rests}
-use Rattle.stretches_code.proofs.lists.write_rows.Statement.{statement}
-use Rattle.stretches_code.proofs.lists.write_rows.Tie as tie
+use Rattle.stretches_code.proofs.writing.write_rows.Statement.{statement}
+use Rattle.stretches_code.proofs.writing.write_rows.Tie as tie
 
 abbrev Inv-loop : tie.InvT-loop
 Inv-loop wing weekday newYear length out₀ n₀ run₀ date₀ out n run date =
