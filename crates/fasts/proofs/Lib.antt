@@ -1,0 +1,4 @@
+pub mod Kept
+pub mod Found
+pub mod Neighbours
+pub mod Answers

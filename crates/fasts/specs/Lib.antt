@@ -1,0 +1,4 @@
+pub mod Fasts
+pub mod Ahead
+pub mod Answers
+pub mod Promises

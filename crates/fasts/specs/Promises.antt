@@ -1,0 +1,42 @@
+-- What is told of a year's fasts, and of the fast ahead of a day.
+use mathlib.Core.Path.{_≡_}
+use mathlib.Core.List.{List, [], _∷_}
+use Prim.Native.Nat.{ℕ, _+_, _-_, _≤_, _<_}
+use lib.ListN.{length, getD}
+use Rattle.days.specs.Range.{lastDay}
+use Rattle.days.specs.Weekday.{weekday}
+use Rattle.hebrew.specs.Dates.{dayNumber, dateOf}
+use Rattle.lists.specs.Lists.{DaysRise}
+use Rattle.fasts.specs.Ahead.{FastOn, NextFast}
+use Rattle.fasts.specs.declared.Ahead.{Ahead}
+
+-- A fast of day j is kept on day n: on its own unless that is a Saturday, and then on the Sunday, or on the Thursday before.
+abbrev pub OrSunday : ℕ → ℕ → Type 0
+OrSunday j n = (¬ (weekday j ≡ 7) → n ≡ j) × (weekday j ≡ 7 → (n ≡ j + 1) × (weekday n ≡ 1))
+
+abbrev pub OrThursday : ℕ → ℕ → Type 0
+OrThursday j n = (¬ (weekday j ≡ 7) → n ≡ j) × (weekday j ≡ 7 → (n + 2 ≡ j) × (weekday n ≡ 5))
+
+-- The month codes of the five.
+abbrev pub fastMonths : List ℕ
+fastMonths = 1 ∷ 4 ∷ 7 ∷ 11 ∷ 12 ∷ []
+
+-- The list is that of year h's fasts; `on` tells the day number of a month code and a day of the month.
+pub record FastsOf (h : ℕ) (on : ℕ → ℕ → ℕ) (list : List ℕ) : Type 0 where
+  pub five : length list ≡ 5
+  pub rising : DaysRise list
+  pub tishri : OrSunday (on 1 3) (getD list 0 0)
+  -- Tevet's is always kept on its date, which is never a Saturday.
+  pub tevet : (getD list 1 0 ≡ on 4 10) × (¬ (weekday (on 4 10) ≡ 7))
+  pub adar : OrThursday (on 7 13) (getD list 2 0)
+  pub tammuz : OrSunday (on 11 17) (getD list 3 0)
+  pub av : OrSunday (on 12 9) (getD list 4 0)
+  -- No fast is kept on a Saturday, nor outside its month.
+  pub no-saturday : (i : ℕ) → i < 5 → ¬ (weekday (getD list i 0) ≡ 7)
+  pub in-month : (i : ℕ) → i < 5 → (dateOf (getD list i 0) .year ≡ h) × (dateOf (getD list i 0) .month ≡ getD fastMonths i 0)
+
+-- What is told of the fast ahead of day j: the next one's month code and the days left until it; on the last fifty days of the
+-- range, after which none is kept, zeros and the flag.
+pub record FastTold (j : ℕ) (f : Ahead) : Type 0 where
+  pub ahead : j ≤ lastDay - 50 → (f .none ≡ 0) × NextFast j (f .month) (j + f .left)
+  pub last-fifty : lastDay - 50 < j → (f .none ≡ 1) × ((f .month ≡ 0) × ((f .left ≡ 0) × ((code n : ℕ) → FastOn code n → n < j)))
