@@ -15,15 +15,15 @@ use Rattle.laws.proofs.Promises.{smallest}
 use Rattle.days.specs.Weekday.{weekday}
 use Rattle.molad.specs.Years.{InYears}
 use Rattle.hebrew.specs.Dates.{dayNumber, dateOf}
-use Rattle.hebrew.specs.Rows.{row, rowDate}
+use Rattle.hebrew.specs.Rows.{row}
 use Rattle.lists.specs.declared.ListAnswer.{ListAnswer}
 use Rattle.lists.proofs.Lists.{list-promised, list-lent}
 use Rattle.fasts.specs.Fasts.{fastTable, fastDay, fastDays}
 use Rattle.fasts.specs.Ahead.{fastAhead, mayFast}
 use Rattle.fasts.specs.Answers.{fastsAnswer, fastsBuffer}
-use Rattle.fasts.specs.Promises.{OrSunday, OrThursday, fastMonths, FastsOf}
+use Rattle.fasts.specs.Promises.{fastMonths, FastsOf}
 use Rattle.fasts.specs.declared.Ahead.{Ahead}
-use Rattle.fasts.proofs.Kept.{tevet-no-saturday, kept-own, kept-sunday, kept-thursday, kept-date, fast-in-year, fast-dated, fast-month}
+use Rattle.fasts.proofs.Kept.{tevet-no-saturday, kept-own, kept-sunday, kept-thursday, kept-date, fast-dated, fast-month}
 use Rattle.fasts.proofs.Found.{five-rise}
 
 pub fasts-promised :

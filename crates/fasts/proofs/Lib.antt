@@ -2,3 +2,4 @@ pub mod Kept
 pub mod Found
 pub mod Neighbours
 pub mod Answers
+pub mod Fixed

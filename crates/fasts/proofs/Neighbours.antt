@@ -1,14 +1,13 @@
 -- The fast ahead of a day's neighbour.
-use mathlib.Core.Path.{_≡_, refl, sym, ap, _∙_}
+use mathlib.Core.Path.{_≡_, sym, ap, _∙_}
 use mathlib.Core.Bool.{false, false≢true}
 use mathlib.Core.Logic.{by-cases}
 use Prim.Native.Nat.{ℕ, _+_, _-_, _<_}
 use native.Mathlib.Omega.{arith}
 use native.Mathlib.Decide.{ℕ-discrete, decLt}
 use Rattle.days.specs.Range.{lastDay, InRange}
-use Rattle.hebrew.specs.Dates.{Date, dateOf}
+use Rattle.hebrew.specs.Dates.{dateOf}
 use Rattle.fasts.specs.Ahead.{FastOn, NextFast, fastAhead, mayFast}
-use Rattle.fasts.specs.declared.Ahead.{Ahead}
 use Rattle.fasts.proofs.Kept.{fast-month, fast-may}
 use Rattle.fasts.proofs.Found.{none-later, told}
 

@@ -5,7 +5,7 @@ use Prim.Native.Nat.{ℕ, _+_, _-_, _≤_, _<_}
 use lib.ListN.{length, getD}
 use Rattle.days.specs.Range.{lastDay}
 use Rattle.days.specs.Weekday.{weekday}
-use Rattle.hebrew.specs.Dates.{dayNumber, dateOf}
+use Rattle.hebrew.specs.Dates.{dateOf}
 use Rattle.lists.specs.Lists.{DaysRise}
 use Rattle.fasts.specs.Ahead.{FastOn, NextFast}
 use Rattle.fasts.specs.declared.Ahead.{Ahead}

@@ -7,7 +7,7 @@ use Rattle.molad.specs.Years.{lastYear}
 use Rattle.newyear.specs.NewYear.{newYear, yearLength, yearOf}
 use Rattle.newyear_code.specs.Spans.{Spans}
 use Rattle.newyear_code.specs.declared.span.Span.{Span}
-use Rattle.newyear.proofs.Lengths.{length-in, near}
+use Rattle.newyear.proofs.Lengths.{rises, length-in, near}
 use Rattle.newyear.proofs.Rise.{rise-le}
 use Rattle.newyear.proofs.YearOf.{first, held}
 
@@ -30,6 +30,11 @@ spans h s l u y b d =
 -- The span's own year is the year that it spans.
 pub spans-own : (h : ℕ) (s : Span) → Spans h s → Spans (s .year) s
 spans-own h s e = subst (λ (y : ℕ). Spans y s) (sym (e .year)) e
+
+-- A year ends where the next begins.
+pub span-ends : (h : ℕ) (s : Span) → Spans h s → s .«new_year» + s .length ≡ newYear (h + 1)
+unfolding yearLength
+span-ends h s e = rw (e .begins, e .days) (omega (arith, rises h (e .first) (omega (arith, e .last))))
 
 -- A day lies in the span of the year that holds it.
 pub span-holds : (j : ℕ) (s : Span) → InRange j → Spans (yearOf j) s → (s .«new_year» ≤ j) × (j < s .«new_year» + s .length)

@@ -1,19 +1,22 @@
 -- The words of this crate are these numbers, worked out from the closed month count.
 use mathlib.Core.Path.{_≡_, refl, sym, ap, subst, _∙_}
-use mathlib.Core.Bool.{true, false, _||_}
+use mathlib.Core.Bool.{true, false, _||_, cond}
 use mathlib.Core.List.{[], _∷_}
 use mathlib.Core.Logic.{inl, inr}
-use Prim.Native.Nat.{ℕ, _+_, _-_}
+use Prim.Native.Nat.{ℕ, _+_, _-_, _≤_, _<_}
 use native.Mathlib.Omega.{arith}
+use lib.Dec.{ltb}
 use lib.IntN.{pos, negsuc}
 use Rattle.laws.specs.Promise.{_else_, AllMet}
 use Rattle.laws.specs.Begun.{begun}
 use Rattle.laws.specs.Search.{seek, seekNot, runStart}
-use Rattle.days.specs.Range.{InRange, outOfRange}
-use Rattle.molad.specs.Years.{leap}
+use Rattle.days.specs.Range.{lastDay, InRange, outOfRange}
+use Rattle.days.specs.Weekday.{weekday}
+use Rattle.molad.specs.Years.{InYears, leap}
 use Rattle.molad.specs.Molad.{noMonth}
 use Rattle.newyear.specs.NewYear.{newYear, yearLength}
 use Rattle.newyear.proofs.Quick.{quick, newYear-quick}
+use Rattle.newyear.proofs.YearOf.{year-in-range}
 use Rattle.hebrew.specs.Months.{monthLength, daysBefore}
 use Rattle.hebrew.specs.Dates.{Date, dayNumber, monthOf, dateOf}
 use Rattle.hebrew.specs.Steps.{yearDate}
@@ -21,17 +24,21 @@ use Rattle.hebrew.specs.Answers.{hebrewDay}
 use Rattle.hebrew.specs.declared.HebrewDay.{HebrewDay}
 use Rattle.hebrew.proofs.Dates.{date-back}
 use Rattle.hebrew.proofs.RoundTrip.{good-answered, answered-good}
+use Rattle.fasts.specs.Fasts.{keptOn}
+use Rattle.fasts.specs.Ahead.{aheadIn, fastAhead}
+use Rattle.fasts.specs.declared.Ahead.{Ahead}
+use Rattle.fasts.proofs.Fixed.{dayBy, aheadBy, fast-from}
 use Rattle.rest.specs.Wings.{IsWing, outOfWings, tableOf}
 use Rattle.rest.specs.Steps.{restAt}
 use Rattle.stretch.specs.Steps.{nextAt, firstFor, pastFor}
-use Rattle.stretch.specs.Answers.{wingStretch}
+use Rattle.stretch.specs.Answers.{noStretch, stretchOn, wingStretch}
 use Rattle.stretch.specs.declared.StretchAnswer.{StretchAnswer}
 use Rattle.stretch.proofs.Fixed.{stretch-from}
 use Rattle.record.specs.Record.{datedOf, joined, afresh}
 use Rattle.record.specs.Steps.{recordOn, recordBack}
 use Rattle.record.specs.Answers.{leaves, setTo, movedTo, nextOf, backOf}
 use Rattle.record.specs.Promises.{Afresh, PromisedMove}
-use Rattle.record.specs.Fixed.{on, onLast, zeros, ofNoWing, eve, newYear5775, saturday, sunday, firstOfAll, lastSaturday, lastOfAll, WordsFixed}
+use Rattle.record.specs.Fixed.{on, onLast, zeros, ofNoWing, eve, newYear5775, saturday, sunday, monday, firstOfAll, lastFast, afterFasts, lastSaturday, lastOfAll, WordsFixed}
 use Rattle.record.specs.declared.DayRecord.{DayRecord}
 use Rattle.record.specs.declared.Moved.{Moved}
 use Rattle.record.proofs.Answers.{set-promised, next-promised, back-promised}
@@ -97,53 +104,79 @@ spoilt-back = move-refused ofNoWing 2456924 (recordBack ofNoWing) refl refl
 
 -- The day between New Year 5775 and its Saturday.
 abbrev tishri2 : DayRecord
-tishri2 = on 2456927 1 5775 1 2 2456926 3 (negsuc 0) 352
+tishri2 = on 2456927 1 5775 1 2 2456926 3 (negsuc 0) 352 1 2
 
--- A record of these numbers is as worked out afresh, where its date is its day's, its stretch is this, and `later` is the next New
--- Year.
-module _ (r : DayRecord) (later : ℕ) (i : InRange (r .day)) (w : IsWing (r .wing)) (f : newYear (r .year + 1) ≡ later) where
-  worked :
-      hebrewDay (r .year) (r .month) (r .date) ≡ record { refusal = 0; day = r .day } → (s : StretchAnswer) → wingStretch (r .wing) (r .day) ≡ s →
-      afresh (r .wing) (r .day) ≡ joined (r .wing) (r .day) (record { year = r .year; month = r .month; date = r .date; remaining = later - 1 - r .day }) s
-  unfolding afresh datedOf
-  worked q s t = rw (t, dated (r .year) (r .month) (r .date) (r .day) q, f)
+-- A record of these numbers is as worked out afresh, where its date is its day's, and its stretch and its fast are these; `later`
+-- is the next New Year.
+worked :
+    (r : DayRecord) (later : ℕ) → newYear (r .year + 1) ≡ later → hebrewDay (r .year) (r .month) (r .date) ≡ record { refusal = 0; day = r .day } →
+    (s : StretchAnswer) → wingStretch (r .wing) (r .day) ≡ s → (f : Ahead) → fastAhead (r .day) ≡ f →
+    afresh (r .wing) (r .day) ≡ joined (r .wing) (r .day) (record { year = r .year; month = r .month; date = r .date; remaining = later - 1 - r .day }) s f
+unfolding afresh datedOf
+worked r later e q s t f u = rw (t, u, dated (r .year) (r .month) (r .date) (r .day) q, e)
 
-  known :
-      hebrewDay (r .year) (r .month) (r .date) ≡ record { refusal = 0; day = r .day } → (s : StretchAnswer) → wingStretch (r .wing) (r .day) ≡ s →
-      r ≡ joined (r .wing) (r .day) (record { year = r .year; month = r .month; date = r .date; remaining = later - 1 - r .day }) s → Afresh r
-  known q s t p = record { in-range = i; a-wing = w; as-afresh = p ∙ sym (worked q s t) }
+-- Year h begins on day n, the next year on day `later`.
+module _ (h n later : ℕ) (y : InYears h) (e : newYear h ≡ n) (f : newYear (h + 1) ≡ later) where
+  of-year :
+      (r : DayRecord) → r .year ≡ h → IsWing (r .wing) → n ≤ r .day → r .day < later →
+      hebrewDay (r .year) (r .month) (r .date) ≡ record { refusal = 0; day = r .day } →
+      let len = later - n in
+      let x = r .day - n in
+      let rest = restAt (tableOf (r .wing)) (weekday n) len in
+      let next = restAt (tableOf (r .wing)) (weekday n + len) len in
+      let first = n + firstFor rest len x in
+      r ≡ joined (r .wing) (r .day) (record { year = r .year; month = r .month; date = r .date; remaining = later - 1 - r .day })
+      (cond (ltb lastDay first) (noStretch 9) (stretchOn (r .day) first (n + pastFor rest next len x))) (aheadBy h n later (r .day)) →
+      Afresh r
+  of-year r z w l u q p =
+      let ends : newYear (r .year + 1) ≡ later = rw z f in
+      record {
+        in-range = year-in-range (r .day) h (record { low = y .0; high = y .1; from = omega arith; before = omega arith });
+        a-wing = w;
+        as-afresh =
+            p ∙ sym (worked r later ends q _ (stretch-from (r .wing) h n later w y e f (r .day) l u) _ (fast-from h n later y e f (r .day) l u));
+      }
 
 pub words-fixed : WordsFixed
-unfolding quick hebrewDay dayNumber leap noMonth tableOf restAt yearDate monthOf begun daysBefore monthLength nextAt firstFor pastFor seek seekNot runStart
+unfolding quick hebrewDay dayNumber leap noMonth tableOf restAt yearDate monthOf begun daysBefore monthLength nextAt firstFor pastFor seek seekNot runStart aheadBy dayBy aheadIn keptOn
 words-fixed =
     let n1 : newYear 1 ≡ 347998 = newYear-quick 1 (omega arith) in
-    let n2 : newYear 2 ≡ 348353 = newYear-quick 2 (omega arith) in
+    let n2 : newYear (1 + 1) ≡ 348353 = newYear-quick 2 (omega arith) in
     let n5762 : newYear 5762 ≡ 2452171 = newYear-quick 5762 (omega arith) in
-    let n5763 : newYear 5763 ≡ 2452525 = newYear-quick 5763 (omega arith) in
+    let n5763 : newYear (5762 + 1) ≡ 2452525 = newYear-quick 5763 (omega arith) in
     let n5774 : newYear 5774 ≡ 2456541 = newYear-quick 5774 (omega arith) in
+    let m5775 : newYear (5774 + 1) ≡ 2456926 = newYear-quick 5775 (omega arith) in
     let n5775 : newYear 5775 ≡ 2456926 = newYear-quick 5775 (omega arith) in
-    let n5776 : newYear 5776 ≡ 2457280 = newYear-quick 5776 (omega arith) in
+    let n5776 : newYear (5775 + 1) ≡ 2457280 = newYear-quick 5776 (omega arith) in
     let n9999 : newYear 9999 ≡ 3999723 = newYear-quick 9999 (omega arith) in
-    let n10000 : newYear 10000 ≡ 4000076 = newYear-quick 10000 (omega arith) in
-    let l5774 : yearLength 5774 ≡ 385 = long 5774 n5774 n5775 in
+    let n10000 : newYear (9999 + 1) ≡ 4000076 = newYear-quick 10000 (omega arith) in
+    let l5774 : yearLength 5774 ≡ 385 = long 5774 n5774 m5775 in
     let l9999 : yearLength 9999 ≡ 353 = long 9999 n9999 n10000 in
-    let eve' = known eve 2456926 (omega arith) (inl refl) n5775 (rw (n5774, l5774)) _ (stretch-from 1 5774 2456541 2456926 (inl refl) (omega arith) n5774 n5775 2456925 (omega arith) (omega arith)) refl in
-    let first = known newYear5775 2457280 (omega arith) (inl refl) n5776 (rw n5775) _ (stretch-from 1 5775 2456926 2457280 (inl refl) (omega arith) n5775 n5776 2456926 (omega arith) (omega arith)) refl in
-    let second = known tishri2 2457280 (omega arith) (inl refl) n5776 (rw n5775) _ (stretch-from 1 5775 2456926 2457280 (inl refl) (omega arith) n5775 n5776 2456927 (omega arith) (omega arith)) refl in
-    let third = known saturday 2457280 (omega arith) (inl refl) n5776 (rw n5775) _ (stretch-from 1 5775 2456926 2457280 (inl refl) (omega arith) n5775 n5776 2456928 (omega arith) (omega arith)) refl in
-    let fourth = known sunday 2457280 (omega arith) (inl refl) n5776 (rw n5775) _ (stretch-from 1 5775 2456926 2457280 (inl refl) (omega arith) n5775 n5776 2456929 (omega arith) (omega arith)) refl in
-    let one = known (on 2452186 1 5762 1 16 2452189 1 (pos 3) 338) 2452525 (omega arith) (inl refl) n5763 (rw n5762) _ (stretch-from 1 5762 2452171 2452525 (inl refl) (omega arith) n5762 n5763 2452186 (omega arith) (omega arith)) refl in
-    let guest = known (on 2452186 2 5762 1 16 2452185 2 (negsuc 0) 338) 2452525 (omega arith) (inr refl) n5763 (rw n5762) _ (stretch-from 2 5762 2452171 2452525 (inr refl) (omega arith) n5762 n5763 2452186 (omega arith) (omega arith)) refl in
-    let begin = known firstOfAll 348353 (omega arith) (inl refl) n2 (rw n1) _ (stretch-from 1 1 347998 348353 (inl refl) (omega arith) n1 n2 347998 (omega arith) (omega arith)) refl in
-    let sabbath = known lastSaturday 4000076 (omega arith) (inr refl) n10000 (rw (n9999, l9999)) _ (stretch-from 2 9999 3999723 4000076 (inr refl) (omega arith) n9999 n10000 4000071 (omega arith) (omega arith)) refl in
-    let l1-1 = known (onLast 4000072 1 9999 13 26 3) 4000076 (omega arith) (inl refl) n10000 (rw (n9999, l9999)) _ (stretch-from 1 9999 3999723 4000076 (inl refl) (omega arith) n9999 n10000 4000072 (omega arith) (omega arith)) refl in
-    let l1-2 = known (onLast 4000072 2 9999 13 26 3) 4000076 (omega arith) (inr refl) n10000 (rw (n9999, l9999)) _ (stretch-from 2 9999 3999723 4000076 (inr refl) (omega arith) n9999 n10000 4000072 (omega arith) (omega arith)) refl in
-    let l2-1 = known (onLast 4000073 1 9999 13 27 2) 4000076 (omega arith) (inl refl) n10000 (rw (n9999, l9999)) _ (stretch-from 1 9999 3999723 4000076 (inl refl) (omega arith) n9999 n10000 4000073 (omega arith) (omega arith)) refl in
-    let l2-2 = known (onLast 4000073 2 9999 13 27 2) 4000076 (omega arith) (inr refl) n10000 (rw (n9999, l9999)) _ (stretch-from 2 9999 3999723 4000076 (inr refl) (omega arith) n9999 n10000 4000073 (omega arith) (omega arith)) refl in
-    let l3-1 = known (onLast 4000074 1 9999 13 28 1) 4000076 (omega arith) (inl refl) n10000 (rw (n9999, l9999)) _ (stretch-from 1 9999 3999723 4000076 (inl refl) (omega arith) n9999 n10000 4000074 (omega arith) (omega arith)) refl in
-    let l3-2 = known (onLast 4000074 2 9999 13 28 1) 4000076 (omega arith) (inr refl) n10000 (rw (n9999, l9999)) _ (stretch-from 2 9999 3999723 4000076 (inr refl) (omega arith) n9999 n10000 4000074 (omega arith) (omega arith)) refl in
-    let l4-1 = known lastOfAll 4000076 (omega arith) (inl refl) n10000 (rw (n9999, l9999)) _ (stretch-from 1 9999 3999723 4000076 (inl refl) (omega arith) n9999 n10000 4000075 (omega arith) (omega arith)) refl in
-    let l4-2 = known (onLast 4000075 2 9999 13 29 0) 4000076 (omega arith) (inr refl) n10000 (rw (n9999, l9999)) _ (stretch-from 2 9999 3999723 4000076 (inr refl) (omega arith) n9999 n10000 4000075 (omega arith) (omega arith)) refl in
+    let of-1 = of-year 1 347998 348353 (omega arith, omega arith) n1 n2 in
+    let of-5762 = of-year 5762 2452171 2452525 (omega arith, omega arith) n5762 n5763 in
+    let of-5774 = of-year 5774 2456541 2456926 (omega arith, omega arith) n5774 m5775 in
+    let of-5775 = of-year 5775 2456926 2457280 (omega arith, omega arith) n5775 n5776 in
+    let of-9999 = of-year 9999 3999723 4000076 (omega arith, omega arith) n9999 n10000 in
+    let eve' = of-5774 eve refl (inl refl) (omega arith) (omega arith) (rw (n5774, l5774)) refl in
+    let first = of-5775 newYear5775 refl (inl refl) (omega arith) (omega arith) (rw n5775) refl in
+    let second = of-5775 tishri2 refl (inl refl) (omega arith) (omega arith) (rw n5775) refl in
+    let third = of-5775 saturday refl (inl refl) (omega arith) (omega arith) (rw n5775) refl in
+    let fourth = of-5775 sunday refl (inl refl) (omega arith) (omega arith) (rw n5775) refl in
+    let fifth = of-5775 monday refl (inl refl) (omega arith) (omega arith) (rw n5775) refl in
+    let one = of-5762 (on 2452186 1 5762 1 16 2452189 1 (pos 3) 338 4 83) refl (inl refl) (omega arith) (omega arith) (rw n5762) refl in
+    let guest = of-5762 (on 2452186 2 5762 1 16 2452185 2 (negsuc 0) 338 4 83) refl (inr refl) (omega arith) (omega arith) (rw n5762) refl in
+    let begin = of-1 firstOfAll refl (inl refl) (omega arith) (omega arith) (rw n1) refl in
+    let fast = of-9999 lastFast refl (inl refl) (omega arith) (omega arith) (rw (n9999, l9999)) refl in
+    let after = of-9999 afterFasts refl (inl refl) (omega arith) (omega arith) (rw (n9999, l9999)) refl in
+    let sabbath = of-9999 lastSaturday refl (inr refl) (omega arith) (omega arith) (rw (n9999, l9999)) refl in
+    let l1-1 = of-9999 (onLast 4000072 1 9999 13 26 3) refl (inl refl) (omega arith) (omega arith) (rw (n9999, l9999)) refl in
+    let l1-2 = of-9999 (onLast 4000072 2 9999 13 26 3) refl (inr refl) (omega arith) (omega arith) (rw (n9999, l9999)) refl in
+    let l2-1 = of-9999 (onLast 4000073 1 9999 13 27 2) refl (inl refl) (omega arith) (omega arith) (rw (n9999, l9999)) refl in
+    let l2-2 = of-9999 (onLast 4000073 2 9999 13 27 2) refl (inr refl) (omega arith) (omega arith) (rw (n9999, l9999)) refl in
+    let l3-1 = of-9999 (onLast 4000074 1 9999 13 28 1) refl (inl refl) (omega arith) (omega arith) (rw (n9999, l9999)) refl in
+    let l3-2 = of-9999 (onLast 4000074 2 9999 13 28 1) refl (inr refl) (omega arith) (omega arith) (rw (n9999, l9999)) refl in
+    let l4-1 = of-9999 lastOfAll refl (inl refl) (omega arith) (omega arith) (rw (n9999, l9999)) refl in
+    let l4-2 = of-9999 (onLast 4000075 2 9999 13 29 0) refl (inr refl) (omega arith) (omega arith) (rw (n9999, l9999)) refl in
     let last-on = on-to lastSaturday (onLast 4000072 2 9999 13 26 3) sabbath l1-2 refl refl in
     let over = on-to eve newYear5775 eve' first refl refl in
     let past = on-to saturday sunday third fourth refl refl in
@@ -154,9 +187,10 @@ words-fixed =
     rw (next-refused zeros refl, set-to zeros eve eve', over, on-1, wing-refused tishri2 3 2456925 refl, on-2, past, back-again) in
     record {
       new = refl;
-      a-set = (set-to zeros eve eve', set-to zeros newYear5775 first, set-to eve saturday third, set-to zeros sunday fourth);
+      a-set = (set-to zeros eve eve', set-to zeros newYear5775 first, set-to eve saturday third, set-to zeros sunday fourth, set-to zeros monday fifth);
       both-wings = (set-to zeros _ one, set-to zeros _ guest);
       ends = (set-to zeros firstOfAll begin, set-to zeros lastSaturday sabbath);
+      last-fasts = (set-to zeros lastFast fast, set-to zeros afterFasts after);
       last-four = (
         set-to zeros _ l1-1,
         set-to zeros _ l1-2,
@@ -167,10 +201,12 @@ words-fixed =
         set-to zeros lastOfAll l4-1,
         set-to zeros _ l4-2,
       );
-      moved = (over, past, last-on);
+      moved = (over, past, on-to sunday monday fourth fifth refl refl, on-to lastFast afterFasts fast after refl refl, last-on);
       moved-back = (
         back-to newYear5775 eve first eve' refl refl,
         back-again,
+        back-to monday sunday fifth fourth refl refl,
+        back-to afterFasts lastFast after fast refl refl,
         back-to (onLast 4000072 2 9999 13 26 3) lastSaturday l1-2 sabbath refl refl,
       );
       called = calls;

@@ -4,13 +4,15 @@ use mathlib.Core.Bool.{Bool, true, false, not, _||_, cond, false≢true}
 use mathlib.Core.Logic.{_⊎_, inl, inr, ⊎-elim}
 use Prim.Native.Nat.{ℕ, _+_, _-_, _<_}
 use native.Mathlib.Omega.{arith}
-use borrow.Author.Tests.{eqb-true, ltb-true, leb-true}
+use borrow.Author.Tests.{eqb-true, ltb-true, leb-true, not-true}
 use lib.Dec.{eqb, leb, ltb}
 use Rattle.laws.proofs.Tests.{and-left, and-right}
 use Rattle.laws.proofs.Promises.{ranged, let-pass}
 use Rattle.days.specs.Range.{firstDay, lastDay, InRange}
 use Rattle.newyear.specs.NewYear.{newYear}
 use Rattle.hebrew.proofs.Neighbours.{date-on, date-before}
+use Rattle.fasts.specs.Ahead.{NextFast, fastAhead}
+use Rattle.fasts.proofs.Neighbours.{ahead-is, next-of, still-next, already-next}
 use Rattle.rest.specs.Table.{isRest, restDay}
 use Rattle.rest.specs.Wings.{IsWing, tableOf}
 use Rattle.stretch.specs.Stretches.{StretchFor}
@@ -18,7 +20,7 @@ use Rattle.stretch.specs.Answers.{wingStretch}
 use Rattle.stretch.proofs.Answers.{stretch-promised}
 use Rattle.stretch.proofs.Neighbours.{stretch-is, still-for, already-for}
 use Rattle.record.specs.Record.{datedOf, afresh}
-use Rattle.record.specs.Steps.{sameMonthOn, dateOn, sameMonthBack, dateBack, hasStretch, lasts, kept, stretchOnward, rests, keptBack, stretchBackward, recordOn, recordBack}
+use Rattle.record.specs.Steps.{sameMonthOn, dateOn, sameMonthBack, dateBack, hasStretch, lasts, kept, stretchOnward, rests, keptBack, stretchBackward, fastKeptOn, fastOnward, fastKeptBack, fastBackward, recordOn, recordBack}
 use Rattle.record.specs.declared.DayRecord.{DayRecord}
 use Rattle.record.proofs.Told.{afresh-told}
 
@@ -99,10 +101,43 @@ module _ (wing j : ℕ) (w : IsWing wing) (i : InRange j) where
           (⊎-elim (λ no. inl (sym (rests-is (j - 1) k) ∙ no)) (λ on. inr (leb-true _ _ on)) why)))
       go false e = refl
 
+  -- What the record's fast tells, if there is one.
+  fast-told : eqb (r .«no_fast») 0 ≡ true → NextFast j (r .«fast_month») (j + r .«fast_left»)
+  unfolding afresh
+  fast-told e = next-of j i (eqb-true _ 0 e)
+
+  fast-moves-on : InRange (j + 1) → fastOnward r ≡ fastAhead (j + 1)
+  unfolding fastOnward afresh
+  fast-moves-on k = go (fastKeptOn r) refl
+    where
+      go :
+          (b : Bool) → fastKeptOn r ≡ b →
+          cond b (record { month = r .«fast_month»; left = r .«fast_left» - 1; none = 0 }) (fastAhead (j + 1)) ≡ fastAhead (j + 1)
+      go true e =
+          let l = ltb-true 0 (r .«fast_left») (and-right (eqb (r .«no_fast») 0) _ e) in
+          let f : r .«fast_left» - 1 ≡ j + r .«fast_left» - (j + 1) = omega arith in
+          rw f (sym (ahead-is (j + 1) _ _ k (still-next j _ _ (fast-told (and-left (eqb (r .«no_fast») 0) _ e)) (omega arith))))
+      go false e = refl
+
+  fast-moves-back : InRange (j - 1) → fastBackward r (datedOf (j - 1)) ≡ fastAhead (j - 1)
+  unfolding fastBackward datedOf afresh
+  fast-moves-back k = go (fastKeptBack r (datedOf (j - 1))) refl
+    where
+      go :
+          (b : Bool) → fastKeptBack r (datedOf (j - 1)) ≡ b →
+          cond b (record { month = r .«fast_month»; left = r .«fast_left» + 1; none = 0 }) (fastAhead (j - 1)) ≡ fastAhead (j - 1)
+      go true e =
+          let up : j ≡ j - 1 + 1 = omega arith in
+          let free = not-true _ (and-right (ltb (r .«fast_left») 400) _ (and-right (eqb (r .«no_fast») 0) _ e)) in
+          let t = subst (λ (d : ℕ). NextFast d (r .«fast_month») (j + r .«fast_left»)) up (fast-told (and-left (eqb (r .«no_fast») 0) _ e)) in
+          let f : r .«fast_left» + 1 ≡ j + r .«fast_left» - (j - 1) = omega arith in
+          rw f (sym (ahead-is (j - 1) _ _ k (already-next (j - 1) _ _ t free)))
+      go false e = refl
+
   pub moves-on : InRange (j + 1) → recordOn r ≡ afresh wing (j + 1)
   unfolding recordOn afresh
-  moves-on k = rw (date-moves-on, stretch-moves-on k)
+  moves-on k = rw (date-moves-on, stretch-moves-on k, fast-moves-on k)
 
   pub moves-back : InRange (j - 1) → recordBack r ≡ afresh wing (j - 1)
   unfolding recordBack afresh
-  moves-back k = rw (date-moves-back k, stretch-moves-back k)
+  moves-back k = rw (date-moves-back k, stretch-moves-back k, fast-moves-back k)

@@ -9,6 +9,7 @@ use Rattle.days.specs.Range.{lastDay, InRange}
 use Rattle.newyear.specs.NewYear.{InYear}
 use Rattle.hebrew.specs.Dates.{dateOf}
 use Rattle.hebrew.proofs.Dates.{date-good, date-day, in-its-year}
+use Rattle.fasts.proofs.Found.{told}
 use Rattle.rest.specs.Wings.{IsWing, tableOf}
 use Rattle.stretch.specs.Answers.{wingStretch}
 use Rattle.stretch.specs.Promises.{StretchAhead, askedOfDay}
@@ -49,4 +50,5 @@ module _ (wing j : ℕ) (w : IsWing wing) (i : InRange j) where
         last-four = λ l.
             let u : FirstUnmet (IsWing wing else 15 ∷ askedOfDay (tableOf wing) j) 9 = inr (w, inr (i, inl (none-left wing j w l, refl))) in
             (rw (p .refused 9 (omega arith) .1 u), p .besides 9 u);
+        fast = told j i;
       }

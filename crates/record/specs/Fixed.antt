@@ -1,5 +1,6 @@
 -- The words of this crate, fixed by plain numbers: a promise said in them cannot move with them. A New Year that ran from Thursday to
--- Saturday, entered and left; both wings on 16 Tishri, which the guest wing alone keeps; both ends of the range; each refusal.
+-- Saturday, entered and left, with the fast moved after it; both wings on 16 Tishri, which the guest wing alone keeps; both ends of
+-- the range, and the last fast; each refusal.
 use mathlib.Core.Path.{_≡_}
 use mathlib.Core.List.{[], _∷_}
 use Prim.Native.Nat.{ℕ}
@@ -10,18 +11,81 @@ use Rattle.record.specs.Promises.{set, next, back, afterAll}
 use Rattle.record.specs.declared.DayRecord.{DayRecord}
 use Rattle.record.specs.declared.Moved.{Moved}
 
--- The day and the wing; year, month and date; first day, length and days left of the stretch; days remaining.
-abbrev pub on : ℕ → ℕ → ℕ → ℕ → ℕ → ℕ → ℕ → ℤ → ℕ → DayRecord
-on j wing h code d first days left remaining =
-    record { day = j; wing = wing; year = h; month = code; date = d; first = first; length = days; «days_left» = left; none = 0; remaining = remaining }
+-- The day and the wing; year, month and date; first day, length and days left of the stretch; days remaining; the month code of
+-- the fast ahead, and the days left until it.
+abbrev pub on : ℕ → ℕ → ℕ → ℕ → ℕ → ℕ → ℕ → ℤ → ℕ → ℕ → ℕ → DayRecord
+on j wing h code d first days left remaining fast until =
+    record {
+      day = j;
+      wing = wing;
+      year = h;
+      month = code;
+      date = d;
+      first = first;
+      length = days;
+      «days_left» = left;
+      none = 0;
+      remaining = remaining;
+      «fast_month» = fast;
+      «fast_left» = until;
+      «no_fast» = 0;
+    }
 
--- The same without a stretch: zeros, and the flag.
+-- The same without a fast: zeros, and the flag.
+abbrev pub fastless : ℕ → ℕ → ℕ → ℕ → ℕ → ℕ → ℕ → ℤ → ℕ → DayRecord
+fastless j wing h code d first days left remaining =
+    record {
+      day = j;
+      wing = wing;
+      year = h;
+      month = code;
+      date = d;
+      first = first;
+      length = days;
+      «days_left» = left;
+      none = 0;
+      remaining = remaining;
+      «fast_month» = 0;
+      «fast_left» = 0;
+      «no_fast» = 1;
+    }
+
+-- And without a stretch.
 abbrev pub onLast : ℕ → ℕ → ℕ → ℕ → ℕ → ℕ → DayRecord
 onLast j wing h code d remaining =
-    record { day = j; wing = wing; year = h; month = code; date = d; first = 0; length = 0; «days_left» = pos 0; none = 1; remaining = remaining }
+    record {
+      day = j;
+      wing = wing;
+      year = h;
+      month = code;
+      date = d;
+      first = 0;
+      length = 0;
+      «days_left» = pos 0;
+      none = 1;
+      remaining = remaining;
+      «fast_month» = 0;
+      «fast_left» = 0;
+      «no_fast» = 1;
+    }
 
 abbrev pub zeros : DayRecord
-zeros = record { day = 0; wing = 0; year = 0; month = 0; date = 0; first = 0; length = 0; «days_left» = pos 0; none = 0; remaining = 0 }
+zeros =
+    record {
+      day = 0;
+      wing = 0;
+      year = 0;
+      month = 0;
+      date = 0;
+      first = 0;
+      length = 0;
+      «days_left» = pos 0;
+      none = 0;
+      remaining = 0;
+      «fast_month» = 0;
+      «fast_left» = 0;
+      «no_fast» = 0;
+    }
 
 abbrev pub Done : Moved → DayRecord → Type 0
 Done m r = m ≡ record { refusal = 0; after = r }
@@ -29,52 +93,66 @@ Done m r = m ≡ record { refusal = 0; after = r }
 abbrev pub Refused : Moved → ℕ → DayRecord → Type 0
 Refused m n r = m ≡ record { refusal = n; after = r }
 
--- 29 Elul 5774, a Wednesday; New Year 5775; the Saturday, 3 Tishri; and the Sunday after it.
+-- 29 Elul 5774, a Wednesday; New Year 5775; the Saturday, 3 Tishri; the Sunday after it, to which the fast is moved; and the
+-- Monday.
 abbrev pub eve : DayRecord
-eve = on 2456925 1 5774 13 29 2456926 3 (pos 1) 0
+eve = on 2456925 1 5774 13 29 2456926 3 (pos 1) 0 1 4
 
 abbrev pub newYear5775 : DayRecord
-newYear5775 = on 2456926 1 5775 1 1 2456926 3 (pos 0) 353
+newYear5775 = on 2456926 1 5775 1 1 2456926 3 (pos 0) 353 1 3
 
 abbrev pub saturday : DayRecord
-saturday = on 2456928 1 5775 1 3 2456926 3 (negsuc 1) 351
+saturday = on 2456928 1 5775 1 3 2456926 3 (negsuc 1) 351 1 1
 
 abbrev pub sunday : DayRecord
-sunday = on 2456929 1 5775 1 4 2456935 1 (pos 6) 350
+sunday = on 2456929 1 5775 1 4 2456935 1 (pos 6) 350 1 0
 
--- The first day of the range, the last Saturday and the last day.
+abbrev pub monday : DayRecord
+monday = on 2456930 1 5775 1 5 2456935 1 (pos 5) 349 4 94
+
+-- The first day of the range; the last fast, 9 Av 9999, and the day after it; the last Saturday and the last day.
 abbrev pub firstOfAll : DayRecord
-firstOfAll = on 347998 1 1 1 1 347998 2 (pos 0) 354
+firstOfAll = on 347998 1 1 1 1 347998 2 (pos 0) 354 1 2
+
+abbrev pub lastFast : DayRecord
+lastFast = on 4000025 1 9999 12 9 4000029 1 (pos 4) 50 12 0
+
+abbrev pub afterFasts : DayRecord
+afterFasts = fastless 4000026 1 9999 12 10 4000029 1 (pos 3) 49
 
 abbrev pub lastSaturday : DayRecord
-lastSaturday = on 4000071 2 9999 13 25 4000071 1 (pos 0) 4
+lastSaturday = fastless 4000071 2 9999 13 25 4000071 1 (pos 0) 4
 
 abbrev pub lastOfAll : DayRecord
 lastOfAll = onLast 4000075 1 9999 13 29 0
 
 -- One that no call made: of a wing that is none.
 abbrev pub ofNoWing : DayRecord
-ofNoWing = on 2456925 3 5774 13 29 2456926 3 (pos 1) 0
+ofNoWing = on 2456925 3 5774 13 29 2456926 3 (pos 1) 0 1 4
 
 pub record WordsFixed : Type 0 where
   pub new : newRecord ≡ zeros
   pub a-set :
       Done (setTo zeros 1 2456925) eve × Done (setTo zeros 1 2456926) newYear5775
-      × Done (setTo eve 1 2456928) saturday × Done (setTo zeros 1 2456929) sunday
+      × Done (setTo eve 1 2456928) saturday × Done (setTo zeros 1 2456929) sunday × Done (setTo zeros 1 2456930) monday
   -- 16 Tishri 5762.
   pub both-wings :
-      Done (setTo zeros 1 2452186) (on 2452186 1 5762 1 16 2452189 1 (pos 3) 338)
-      × Done (setTo zeros 2 2452186) (on 2452186 2 5762 1 16 2452185 2 (negsuc 0) 338)
+      Done (setTo zeros 1 2452186) (on 2452186 1 5762 1 16 2452189 1 (pos 3) 338 4 83)
+      × Done (setTo zeros 2 2452186) (on 2452186 2 5762 1 16 2452185 2 (negsuc 0) 338 4 83)
   pub ends : Done (setTo zeros 1 347998) firstOfAll × Done (setTo zeros 2 4000071) lastSaturday
+  pub last-fasts : Done (setTo zeros 1 4000025) lastFast × Done (setTo zeros 1 4000026) afterFasts
   pub last-four :
       Done (setTo zeros 1 4000072) (onLast 4000072 1 9999 13 26 3) × Done (setTo zeros 2 4000072) (onLast 4000072 2 9999 13 26 3)
       × Done (setTo zeros 1 4000073) (onLast 4000073 1 9999 13 27 2) × Done (setTo zeros 2 4000073) (onLast 4000073 2 9999 13 27 2)
       × Done (setTo zeros 1 4000074) (onLast 4000074 1 9999 13 28 1) × Done (setTo zeros 2 4000074) (onLast 4000074 2 9999 13 28 1)
       × Done (setTo zeros 1 4000075) lastOfAll × Done (setTo zeros 2 4000075) (onLast 4000075 2 9999 13 29 0)
-  -- Over New Year, and over a stretch's end.
-  pub moved : Done (nextOf eve) newYear5775 × Done (nextOf saturday) sunday × Done (nextOf lastSaturday) (onLast 4000072 2 9999 13 26 3)
+  -- Over New Year, over a stretch's end and over a fast, and over the last of each.
+  pub moved :
+      Done (nextOf eve) newYear5775 × Done (nextOf saturday) sunday × Done (nextOf sunday) monday
+      × Done (nextOf lastFast) afterFasts × Done (nextOf lastSaturday) (onLast 4000072 2 9999 13 26 3)
   pub moved-back :
-      Done (backOf newYear5775) eve × Done (backOf sunday) saturday × Done (backOf (onLast 4000072 2 9999 13 26 3)) lastSaturday
+      Done (backOf newYear5775) eve × Done (backOf sunday) saturday × Done (backOf monday) sunday
+      × Done (backOf afterFasts) lastFast × Done (backOf (onLast 4000072 2 9999 13 26 3)) lastSaturday
   pub called : afterAll newRecord (next ∷ set 1 2456925 ∷ next ∷ next ∷ set 3 2456925 ∷ next ∷ next ∷ back ∷ []) ≡ saturday
   pub no-wing : Refused (setTo eve 0 2456925) 15 eve × Refused (setTo eve 3 347997) 15 eve × Refused (setTo zeros 0 0) 15 zeros
   pub no-day :

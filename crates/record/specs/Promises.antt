@@ -9,6 +9,8 @@ use Rattle.laws.specs.Promise.{_else_, Promised}
 use Rattle.days.specs.Range.{lastDay, InRange}
 use Rattle.newyear.specs.NewYear.{newYear}
 use Rattle.hebrew.specs.Dates.{Date, GoodHebrewDate, dayNumber}
+use Rattle.fasts.specs.Promises.{FastTold}
+use Rattle.fasts.specs.declared.Ahead.{Ahead}
 use Rattle.rest.specs.Wings.{IsWing, tableOf}
 use Rattle.stretch.specs.Stretches.{StretchFor}
 use Rattle.record.specs.Record.{newRecord, afresh}
@@ -19,8 +21,12 @@ use Rattle.record.specs.declared.Moved.{Moved}
 abbrev pub dateIn : DayRecord → Date
 dateIn r = record { year = r .year; month = r .month; day = r .date }
 
+abbrev pub fastIn : DayRecord → Ahead
+fastIn r = record { month = r .«fast_month»; left = r .«fast_left»; none = r .«no_fast» }
+
 -- The record tells of day j and the wing: its good date; as many days after it as there are before the next New Year; the
--- stretch for it, of one to three days, with days left, -2 to 6; on the last four days of the range zeros, and the flag.
+-- stretch for it, of one to three days, with days left, -2 to 6; on the last four days of the range zeros, and the flag; and
+-- the fast ahead of it.
 pub record RecordOf (wing j : ℕ) (r : DayRecord) : Type 0 where
   pub of-day : r .day ≡ j
   pub of-wing : r .wing ≡ wing
@@ -33,6 +39,7 @@ pub record RecordOf (wing j : ℕ) (r : DayRecord) : Type 0 where
       × (((1 ≤ r .length) × (r .length ≤ 3))
       × ((r .«days_left» ≡ pos (r .first) -ℤ pos j) × ((negsuc 1 ≤ℤ r .«days_left») × (r .«days_left» ≤ℤ pos 6)))))
   pub last-four : lastDay - 4 < j → (r .none ≡ 1) × ((r .first ≡ 0) × ((r .length ≡ 0) × (r .«days_left» ≡ pos 0)))
+  pub fast : FastTold j (fastIn r)
 
 -- The record as it would be worked out afresh for its day and wing.
 pub record Afresh (r : DayRecord) : Type 0 where

@@ -9,6 +9,8 @@ use Rattle.laws.specs.Runs.{elem}
 use Rattle.days.specs.Range.{lastDay}
 use Rattle.days.specs.Weekday.{weekday}
 use Rattle.hebrew.specs.Rows.{row}
+use Rattle.fasts.specs.Ahead.{fastAhead, mayFast}
+use Rattle.fasts.specs.declared.Ahead.{Ahead}
 use Rattle.rest.specs.Wings.{tableOf}
 use Rattle.stretch.specs.Answers.{wingStretch}
 use Rattle.stretch.specs.declared.StretchAnswer.{StretchAnswer}
@@ -62,8 +64,28 @@ keptBack r x = let j = r .day - 1 in lasts r j && (leb (r .first) j || not (rest
 unfoldable pub stretchBackward : DayRecord → Dated → StretchAnswer
 stretchBackward r x = let j = r .day - 1 in cond (keptBack r x) (kept r j) (wingStretch (r .wing) j)
 
+-- A day on the fast is kept until it is past, with a day less left.
+abbrev pub fastKeptOn : DayRecord → Bool
+fastKeptOn r = eqb (r .«no_fast») 0 && ltb 0 (r .«fast_left»)
+
+unfoldable pub fastOnward : DayRecord → Ahead
+fastOnward r =
+    cond (fastKeptOn r)
+    (record { month = r .«fast_month»; left = r .«fast_left» - 1; none = 0 })
+    (fastAhead (r .day + 1))
+
+-- A day back it is kept, with a day more left, if on that date no fast may be kept. No fast is as far ahead as 400 days.
+abbrev pub fastKeptBack : DayRecord → Dated → Bool
+fastKeptBack r x = eqb (r .«no_fast») 0 && (ltb (r .«fast_left») 400 && not (mayFast (x .month) (x .date)))
+
+unfoldable pub fastBackward : DayRecord → Dated → Ahead
+fastBackward r x =
+    cond (fastKeptBack r x)
+    (record { month = r .«fast_month»; left = r .«fast_left» + 1; none = 0 })
+    (fastAhead (r .day - 1))
+
 unfoldable pub recordOn : DayRecord → DayRecord
-recordOn r = joined (r .wing) (r .day + 1) (dateOn r) (stretchOnward r)
+recordOn r = joined (r .wing) (r .day + 1) (dateOn r) (stretchOnward r) (fastOnward r)
 
 unfoldable pub recordBack : DayRecord → DayRecord
-recordBack r = joined (r .wing) (r .day - 1) (dateBack r) (stretchBackward r (dateBack r))
+recordBack r = joined (r .wing) (r .day - 1) (dateBack r) (stretchBackward r (dateBack r)) (fastBackward r (dateBack r))

@@ -1,10 +1,7 @@
 use borrow.Author.Needs.{needs}
-use mathlib.Core.Path.{_≡_}
 use Prim.Native.Nat.{_+_, _-_, _≤_, _<_}
 use native.Mathlib.Omega.{arith}
-use Rattle.newyear.specs.NewYear.{newYear, yearLength, yearOf}
-use Rattle.newyear.proofs.Lengths.{rises}
-use Rattle.newyear_code.proofs.Spanned.{span-holds}
+use Rattle.newyear_code.proofs.Spanned.{span-ends, span-holds}
 use Rattle.hebrew.specs.Dates.{dateOf}
 use Rattle.hebrew.specs.Steps.{yearDate}
 use Rattle.hebrew.proofs.Walked.{date-small}
@@ -14,13 +11,6 @@ use Rattle.record_code.proofs.dates.dated_in.Tie as tie
 
 inside : (c : tie.Start) → let a = c .args in (a .span .«new_year» ≤ a .day) × (a .day < a .span .«new_year» + a .span .length)
 inside c = span-holds _ _ (c .pre .0) (c .pre .1)
-
--- The year ends where the next begins.
-ends : (c : tie.Start) → let a = c .args in a .span .«new_year» + a .span .length ≡ newYear (yearOf (a .day) + 1)
-unfolding yearLength
-ends c =
-    let e = c .pre .1 in
-    let h = yearOf (c .args .day) in rw (e .begins, e .days) (omega (arith, rises h (e .first) (omega (arith, e .last))))
 
 told : (c : tie.After-date-after) → let d = c .date-after .result in (d .month ≤ 13) × (d .day ≤ 400)
 told c =
@@ -34,7 +24,7 @@ unfolding datedOf dateOf yearDate
 returns c =
     let d = c .before in
     let s = d .before .before in
-    let e = s .pre .1 in (rw (ends s, d .date-after .ensures, e .begins, e .days, e .year), told d)
+    let e = s .pre .1 in (rw (span-ends _ _ e, d .date-after .ensures, e .begins, e .days, e .year), told d)
 
 pub dated-in-spec : {M : Type 1} → statement M
 dated-in-spec =
