@@ -8,8 +8,9 @@ use lib.Dec.{eqb, leb, ltb}
 use Rattle.laws.proofs.Tests.{and-left, and-right}
 use Rattle.laws.proofs.Promises.{Catches, ranged, either, caught-alike}
 use Rattle.days.specs.Range.{firstDay, lastDay, InRange, outOfRange}
-use Rattle.record.specs.Steps.{sameMonthOn, sameMonthBack, hasStretch, lasts}
+use Rattle.record.specs.Steps.{sameMonthOn, sameMonthBack, hasStretch, lasts, fastKeptOn, fastKeptBack}
 use Rattle.record.specs.declared.DayRecord.{DayRecord}
+use Rattle.record.specs.declared.Dated.{Dated}
 
 module _ (r : DayRecord) where
   pub on-sound : sameMonthOn r ≡ true → (r .date < 29) × (0 < r .remaining)
@@ -32,6 +33,12 @@ module _ (r : DayRecord) where
   pub lasts-sound : (j : ℕ) → lasts r j ≡ true → (r .first ≤ lastDay) × (r .length ≤ 3)
   unfolding lasts
   lasts-sound j e = told-sound (and-left (hasStretch r) _ e)
+
+  pub fast-on-sound : fastKeptOn r ≡ true → 1 ≤ r .«fast_left»
+  fast-on-sound e = ltb-true 0 (r .«fast_left») (and-right (eqb (r .«no_fast») 0) _ e)
+
+  pub fast-back-sound : (x : Dated) → fastKeptBack r x ≡ true → r .«fast_left» < 400
+  fast-back-sound x e = ltb-true (r .«fast_left») 400 (and-left _ _ (and-right (eqb (r .«no_fast») 0) _ e))
 
 -- A day on, and a day back, within the range.
 below : (a b : ℕ) → Catches (ltb a b) (b ≤ a)

@@ -1,15 +1,17 @@
 // The code that keeps a panel's day record. Each call is by value: a record comes in, and goes out as the call leaves it,
 // with the refusal number. `panel` lends the record.
 //
-// Set, a day is worked out afresh. Moved, most of it stays: the date goes on within its month, and the stretch is kept while
-// it answers for the day. What does not stay is worked out afresh. A record that none of these calls made may hold any
-// numbers; one that is counted with is looked at first.
+// Set, a day is worked out afresh. Moved, most of it stays: the date goes on within its month, the stretch is kept while it
+// answers for the day, and the fast while it is ahead. What does not stay is worked out afresh. A record that none of these
+// calls made may hold any numbers; one that is counted with is looked at first.
+mod ahead;
 mod dates;
 mod stretches;
 
 ghost use mathlib.Core.Path.{_≡_};
 ghost use Rattle.record.specs.Record.{joined as Record·joined};
 ghost use Rattle.record.specs.Answers.{leaves as Answers·leaves, setTo, nextOf, backOf};
+use fasts::Ahead;
 use record::Dated;
 use record::DayRecord;
 use record::Moved;
@@ -21,8 +23,8 @@ fn leaves(refusal: u64, after: DayRecord) -> Moved
     Moved { refusal, after }
 }
 
-fn joined(wing: u64, day: u64, x: Dated, s: StretchAnswer) -> DayRecord
-    ensures { λ r. ⌜ r ≡ Record·joined wing day x s ⌝ }
+fn joined(wing: u64, day: u64, x: Dated, s: StretchAnswer, f: Ahead) -> DayRecord
+    ensures { λ r. ⌜ r ≡ Record·joined wing day x s f ⌝ }
 {
     DayRecord {
         day,
@@ -35,6 +37,9 @@ fn joined(wing: u64, day: u64, x: Dated, s: StretchAnswer) -> DayRecord
         days_left: s.days_left,
         none: laws::pick(s.refusal == 0, 0, 1),
         remaining: x.remaining,
+        fast_month: f.month,
+        fast_left: f.left,
+        no_fast: f.none,
     }
 }
 
@@ -51,7 +56,7 @@ pub fn set(r: DayRecord, wing: u64, day: u64) -> Moved
     let span = newyear_code::year_holding(day);
     let x = dates::dated_in(day, span);
     let s = stretch_code::stretch_in(wing, day, span.new_year, span.length);
-    leaves(0, joined(wing, day, x, s))
+    leaves(0, joined(wing, day, x, s, fasts_code::ahead_in(day, span)))
 }
 
 // Refusal 4 for a record whose day is outside the range, or its last day; 15 for a wing that is neither 1 nor 2, which no
@@ -66,7 +71,10 @@ pub fn next(r: DayRecord) -> Moved
         return leaves(15, r);
     }
     let x = dates::on(r);
-    leaves(0, joined(r.wing, r.day + 1, x, stretches::on(r)))
+    leaves(
+        0,
+        joined(r.wing, r.day + 1, x, stretches::on(r), ahead::on(r)),
+    )
 }
 
 // The same, with the range's first day for its last.
@@ -80,5 +88,14 @@ pub fn back(r: DayRecord) -> Moved
         return leaves(15, r);
     }
     let x = dates::back(r);
-    leaves(0, joined(r.wing, r.day - 1, x, stretches::back(r, x)))
+    leaves(
+        0,
+        joined(
+            r.wing,
+            r.day - 1,
+            x,
+            stretches::back(r, x),
+            ahead::back(r, x),
+        ),
+    )
 }

@@ -34,17 +34,18 @@ returns-2 c =
 named : (c : tie.Else2) → outOfWings (c .before .before .before .before .before .args .r .wing) ≡ false
 named c = sym (c .before .out-of-wings .ensures) ∙ c .if2 .left
 
-moved : (c : tie.After-joined) → c .joined .result ≡ recordBack (c .before .before .before .before .before .before .before .before .before .args .r)
+moved : (c : tie.After-joined) → c .joined .result ≡ recordBack (c .before .before .before .before .before .before .before .before .before .before .args .r)
 unfolding recordBack
 moved c =
-    let s = c .before in
-    let d = s .before .before in rw (← d .back .ensures .0, ← s .back2 .ensures) (c .joined .ensures)
+    let f = c .before in
+    let s = f .before in
+    let d = s .before .before in rw (← d .back .ensures .0, ← s .back2 .ensures, ← f .back3 .ensures) (c .joined .ensures)
 
 returns-3 : tie.Need-returns-3
 unfolding backOf
 returns-3 c =
     let j = c .before in
-    let w = j .before .before .before .before in rw (passed (w .before .before), named w, ← moved j) (c .leaves3 .ensures)
+    let w = j .before .before .before .before .before in rw (passed (w .before .before), named w, ← moved j) (c .leaves3 .ensures)
 
 pub back-spec : {M : Type 1} → statement M
 back-spec =
@@ -61,6 +62,7 @@ back-spec =
     let r = e .before .before .before .args .r in
     let l : 1 ≤ r .day = omega (arith, inside e) in l)
     (λ c κs. (inside (c .before .before .before .before), c .before .back .ensures .1))
+    (λ c κs. (inside (c .before .before .before .before .before), c .before .before .back .ensures .1))
     (search needs)
     (search needs)
     returns-3)

@@ -24,6 +24,9 @@ returns c =
       «days_left» = t i;
       none = n i;
       remaining = a .x .remaining;
+      «fast_month» = a .f .month;
+      «fast_left» = a .f .left;
+      «no_fast» = a .f .none;
     }
 
 pub joined-spec : {M : Type 1} → statement M

@@ -34,17 +34,18 @@ returns-2 c =
 named : (c : tie.Else2) → outOfWings (c .before .before .before .before .before .args .r .wing) ≡ false
 named c = sym (c .before .out-of-wings .ensures) ∙ c .if2 .left
 
-moved : (c : tie.After-joined) → c .joined .result ≡ recordOn (c .before .before .before .before .before .before .before .before .before .args .r)
+moved : (c : tie.After-joined) → c .joined .result ≡ recordOn (c .before .before .before .before .before .before .before .before .before .before .args .r)
 unfolding recordOn
 moved c =
-    let s = c .before in
-    let d = s .before .before in rw (← d .on .ensures, ← s .on2 .ensures) (c .joined .ensures)
+    let f = c .before in
+    let s = f .before in
+    let d = s .before .before in rw (← d .on .ensures, ← s .on2 .ensures, ← f .on3 .ensures) (c .joined .ensures)
 
 returns-3 : tie.Need-returns-3
 unfolding nextOf
 returns-3 c =
     let j = c .before in
-    let w = j .before .before .before .before in rw (passed (w .before .before), named w, ← moved j) (c .leaves3 .ensures)
+    let w = j .before .before .before .before .before in rw (passed (w .before .before), named w, ← moved j) (c .leaves3 .ensures)
 
 pub next-spec : {M : Type 1} → statement M
 next-spec =
@@ -61,6 +62,7 @@ next-spec =
     let r = e .before .before .before .args .r in
     let l : r .day + 1 < 2 ^ 64 = omega (arith, inside e) in record { fits = l })
     (λ c κs. inside (c .before .before .before .before))
+    (λ c κs. inside (c .before .before .before .before .before))
     (search needs)
     (search needs)
     returns-3)

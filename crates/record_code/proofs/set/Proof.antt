@@ -17,18 +17,20 @@ ranged : (c : tie.Else2) → InRange (c .before .before .before .before .args .d
 ranged c = in-range _ (c .before .out-of-range .ensures) (c .if2 .left)
 
 -- The day is worked out afresh.
-worked : (c : tie.After-joined) → let a = c .before .before .before .before .before .before .before .before .args in c .joined .result ≡ afresh (a .wing) (a .day)
+worked : (c : tie.After-joined) → let a = c .before .before .before .before .before .before .before .before .before .args in c .joined .result ≡ afresh (a .wing) (a .day)
 unfolding afresh
 worked c =
-    let s = c .before in
+    let f = c .before in
+    let s = f .before in
     let d = s .before in
-    let w = named (d .before .before .before .before) in rw (w, ← d .dated-in .ensures .0, ← s .stretch-in .ensures) (c .joined .ensures)
+    let w = named (d .before .before .before .before) in
+    rw (w, ← d .dated-in .ensures .0, ← s .stretch-in .ensures, ← f .ahead-in .ensures) (c .joined .ensures)
 
 returns-3 : tie.Need-returns-3
 unfolding setTo
 returns-3 c =
     let j = c .before in
-    let i = j .before .before .before .before in
+    let i = j .before .before .before .before .before in
     let o = i .before in rw (named (o .before), ← o .out-of-range .ensures, i .if2 .left, ← worked j) (c .leaves3 .ensures)
 
 pub set-spec : {M : Type 1} → statement M
@@ -47,6 +49,7 @@ set-spec =
     (λ c κs. ranged c)
     (λ c κs. (ranged (c .before), c .year-holding .ensures))
     (λ c κs. let e = c .before .year-holding .ensures in (ranged (c .before .before), (e .begins, e .days)))
+    (λ c κs. (ranged (c .before .before .before), c .before .before .year-holding .ensures))
     (search needs)
     (search needs)
     returns-3)
