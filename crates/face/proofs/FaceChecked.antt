@@ -6,6 +6,7 @@ use Rattle.notice.proofs.Fixed.{words-fixed as notices}
 use Rattle.newyear.proofs.Fixed.{words-fixed as years}
 use Rattle.rhodes.proofs.Fixed.{words-fixed as routes}
 use Rattle.hebrew.proofs.Fixed.{words-fixed as hebrew-dates}
+use Rattle.fasts.proofs.Fixed.{words-fixed as fasts}
 use Rattle.rest.proofs.Fixed.{words-fixed as rests}
 use Rattle.stretch.proofs.Fixed.{words-fixed as stretch}
 use Rattle.record.proofs.Fixed.{words-fixed as records}
@@ -36,6 +37,7 @@ face-checked =
       bd-record-set = (records .both-wings .1, records .no-wing .1);
       bd-record-next = (records .moved .1, records .no-move .2);
       bd-record-back = (records .moved-back .1, records .no-move .3);
+      bd-fasts = (fasts .years .0 .0, fasts .years .0 .1, fasts .short .0 .0, fasts .short .0 .1);
       bd-rest-days = (rests .guest-wing .0, rests .guest-wing .1, rests .no-wing .1 .0, rests .no-wing .1 .1);
       bd-stretches = (stretches .guest-wing, stretches .short .1 .0);
       bd-sheet-write = (sheets .guest-wing, sheets .no-years .3 .0);

@@ -11,7 +11,6 @@ use Rattle.civil.specs.declared.CivilDay.{CivilDay}
 use Rattle.civil.specs.declared.CivilDate.{CivilDate}
 use Rattle.molad.specs.Answers.{moladAnswer}
 use Rattle.molad.specs.declared.MoladAnswer.{MoladAnswer}
-use Rattle.lists.specs.declared.ListAnswer.{ListAnswer}
 use Rattle.notice.specs.Answers.{noticeAnswer}
 use Rattle.notice.specs.declared.NoticeAnswer.{NoticeAnswer}
 use Rattle.newyear.specs.Answers.{newYearAnswer, yearAnswer, kindAnswer, yearOfDayAnswer}
@@ -24,6 +23,8 @@ use Rattle.hebrew.specs.Answers.{monthAnswer, hebrewDay, hebrewDate}
 use Rattle.hebrew.specs.declared.MonthAnswer.{MonthAnswer}
 use Rattle.hebrew.specs.declared.HebrewDay.{HebrewDay}
 use Rattle.hebrew.specs.declared.HebrewDate.{HebrewDate}
+use Rattle.lists.specs.declared.ListAnswer.{ListAnswer}
+use Rattle.fasts.specs.Answers.{fastsAnswer, fastsBuffer}
 use Rattle.rest.specs.Answers.{wingRestDays, wingRestDaysBuffer}
 use Rattle.stretch.specs.Answers.{wingStretch}
 use Rattle.stretches.specs.Answers.{wingStretches, wingStretchesBuffer}
@@ -96,6 +97,12 @@ bdRecordNext r = nextOf r
 
 abbrev pub bdRecordBack : DayRecord → Moved
 bdRecordBack r = backOf r
+
+abbrev pub bdFasts : ℕ → List ℕ → ListAnswer
+bdFasts year out = fastsAnswer year out
+
+abbrev pub bdFastsLeaves : ℕ → List ℕ → List ℕ
+bdFastsLeaves year out = fastsBuffer year out
 
 abbrev pub bdRestDays : ℕ → ℕ → List ℕ → ListAnswer
 bdRestDays wing year out = wingRestDays wing year out

@@ -6,11 +6,12 @@ use mathlib.Core.List.{List, [], _∷_}
 use Prim.Native.Nat.{ℕ, _≤_}
 use lib.IntN.{pos, negsuc}
 use lib.ListN.{length, take}
+use Rattle.fasts.specs.Fixed.{four, six}
 use Rattle.rest.specs.Fixed.{fourteen}
 use Rattle.record.specs.Fixed.{on, zeros, eve, saturday, sunday}
 use Rattle.sheet.specs.Fixed.{sheetOf5775, guestSheet}
 use Rattle.accepted.specs.Fixed.{one, guest}
-use Rattle.face.specs.Face.{bdWeekday, bdJulianToDay, bdGregorianToDay, bdDayToJulian, bdDayToGregorian, bdMonthLength, bdHebrewToDay, bdDayToHebrew, bdMolad, bdNotice, bdNewYear, bdNewYearRhodes, bdYear, bdKind, bdYearOfDay, bdStretch, bdRecordSet, bdRecordNext, bdRecordBack, bdRestDays, bdRestDaysLeaves, bdStretches, bdStretchesLeaves, bdSheetWrite, bdSheetWriteLeaves, bdSheetRows, bdSheetsRows, bdWalkBegin, bdWalkNext}
+use Rattle.face.specs.Face.{bdWeekday, bdJulianToDay, bdGregorianToDay, bdDayToJulian, bdDayToGregorian, bdMonthLength, bdHebrewToDay, bdDayToHebrew, bdMolad, bdNotice, bdNewYear, bdNewYearRhodes, bdYear, bdKind, bdYearOfDay, bdStretch, bdRecordSet, bdRecordNext, bdRecordBack, bdFasts, bdFastsLeaves, bdRestDays, bdRestDaysLeaves, bdStretches, bdStretchesLeaves, bdSheetWrite, bdSheetWriteLeaves, bdSheetRows, bdSheetsRows, bdWalkBegin, bdWalkNext}
 
 pub record FaceChecked : Type 0 where
   pub bd-weekday : (bdWeekday 2456928 ≡ record { refusal = 0; weekday = 7 }) × (bdWeekday 347997 ≡ record { refusal = 4; weekday = 0 })
@@ -49,10 +50,15 @@ pub record FaceChecked : Type 0 where
       × (bdStretch 1 2452186 ≡ record { refusal = 0; first = 2452189; length = 1; «days_left» = pos 3 })
       × (bdStretch 3 2452186 ≡ record { refusal = 15; first = 0; length = 0; «days_left» = pos 0 })
   pub bd-record-set :
-      (bdRecordSet zeros 2 2452186 ≡ record { refusal = 0; after = on 2452186 2 5762 1 16 2452185 2 (negsuc 0) 338 })
+      (bdRecordSet zeros 2 2452186 ≡ record { refusal = 0; after = on 2452186 2 5762 1 16 2452185 2 (negsuc 0) 338 4 83 })
       × (bdRecordSet eve 3 347997 ≡ record { refusal = 15; after = eve })
   pub bd-record-next : (bdRecordNext saturday ≡ record { refusal = 0; after = sunday }) × (bdRecordNext zeros ≡ record { refusal = 4; after = zeros })
   pub bd-record-back : (bdRecordBack sunday ≡ record { refusal = 0; after = saturday }) × (bdRecordBack zeros ≡ record { refusal = 4; after = zeros })
+  pub bd-fasts :
+      (bdFasts 5784 six ≡ record { refusal = 0; count = 5 })
+      × (bdFastsLeaves 5784 six ≡ 2460206 ∷ 2460301 ∷ 2460391 ∷ 2460515 ∷ 2460536 ∷ 7 ∷ [])
+      × (bdFasts 5784 four ≡ record { refusal = 10; count = 5 })
+      × (bdFastsLeaves 5784 four ≡ four)
   pub bd-rest-days :
       (bdRestDays 2 5762 fourteen ≡ record { refusal = 0; count = 13 })
       × (bdRestDaysLeaves 2 5762 fourteen

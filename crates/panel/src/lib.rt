@@ -7,6 +7,7 @@
 // tells the refusal alone; so does a walk when it begins, and then a row or no more. `include/bournedrouth.h` says the same
 // to C.
 mod civil_dates;
+mod fast_days;
 mod hebrew_dates;
 mod new_years;
 mod records;
@@ -18,6 +19,7 @@ pub use civil_dates::bd_day_to_julian;
 pub use civil_dates::bd_gregorian_to_day;
 pub use civil_dates::bd_julian_to_day;
 pub use civil_dates::bd_weekday;
+pub use fast_days::bd_fasts;
 pub use hebrew_dates::bd_day_to_hebrew;
 pub use hebrew_dates::bd_hebrew_to_day;
 pub use hebrew_dates::bd_month_length;
