@@ -9,7 +9,7 @@ pub use slices::sum;
 pub use slices::wide;
 
 // The most fields that an answer has.
-pub const FIELDS: usize = 11;
+pub const FIELDS: usize = 14;
 
 pub struct Answer {
     pub count: usize,

@@ -29,6 +29,9 @@ fn new_record() -> DayRecord {
         days_left: 0,
         none: 0,
         remaining: 0,
+        fast_month: 0,
+        fast_left: 0,
+        no_fast: 0,
     }
 }
 
@@ -40,7 +43,7 @@ fn set(wing: u64, day: u64) -> DayRecord {
 fn told(m: Moved) -> Answer {
     let r = m.after;
     let of_day = fields(&[m.refusal, r.day, r.wing, r.year, r.month, r.date]);
-    more(
+    let of_stretch = more(
         of_day,
         &[
             r.first,
@@ -49,7 +52,8 @@ fn told(m: Moved) -> Answer {
             r.none,
             r.remaining,
         ],
-    )
+    );
+    more(of_stretch, &[r.fast_month, r.fast_left, r.no_fast])
 }
 
 fn same(a: DayRecord, b: DayRecord) -> bool {
@@ -58,7 +62,9 @@ fn same(a: DayRecord, b: DayRecord) -> bool {
     let of_year = (a.date == b.date) & (a.remaining == b.remaining);
     let of_stretch = (a.first == b.first)
         & ((a.length == b.length) & ((a.days_left == b.days_left) & (a.none == b.none)));
-    of_day & (of_year & of_stretch)
+    let of_fast = (a.fast_month == b.fast_month)
+        & ((a.fast_left == b.fast_left) & (a.no_fast == b.no_fast));
+    of_day & (of_year & (of_stretch & of_fast))
 }
 
 fn moved(on: bool, r: DayRecord) -> DayRecord {

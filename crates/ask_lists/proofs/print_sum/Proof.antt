@@ -4,10 +4,10 @@ use Rattle.ask_lists.proofs.print_sum.Statement.{statement}
 use Rattle.ask_lists.proofs.print_sum.Tie as tie
 
 abbrev Inv-loop : tie.InvT-loop
-Inv-loop wing first last after sum₀ i₀ sum i = i ≤ after + 1
+Inv-loop of-fasts wing first last after sum₀ i₀ sum i = i ≤ after + 1
 
 abbrev μ-loop : tie.MeasureT-loop
-μ-loop wing first last after sum₀ i₀ sum i = after + 1 - i
+μ-loop of-fasts wing first last after sum₀ i₀ sum i = after + 1 - i
 
 pub print-sum-spec : {M : Type 1} → statement M
 print-sum-spec =
@@ -15,7 +15,6 @@ print-sum-spec =
     (tie.spec
     Inv-loop
     μ-loop
-    (search needs)
     (search needs)
     (search needs)
     (search needs)
