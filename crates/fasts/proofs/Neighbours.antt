@@ -26,11 +26,11 @@ ahead-is j code n i f =
     let month : m ≡ code = sym (of-its-month m k (t .1 .a-fast)) ∙ ap (λ (d : ℕ). dateOf d .month) same ∙ of-its-month code n (f .a-fast) in
     λ x. record { month = month x; left = left x; none = t .0 x }
 
--- A flag of 0 tells of a next fast.
-pub next-of : (j : ℕ) → InRange j → fastAhead j .none ≡ 0 → NextFast j (fastAhead j .month) (j + fastAhead j .left)
-next-of j i z =
+-- A month tells of a next fast.
+pub next-of : (j : ℕ) → InRange j → 0 < fastAhead j .month → NextFast j (fastAhead j .month) (j + fastAhead j .left)
+next-of j i some =
     by-cases (decLt (lastDay - 50) j)
-    (λ l. absurd (omega (arith, told j i .last-fifty l .0)))
+    (λ l. absurd (omega (arith, told j i .last-fifty l .1 .0)))
     (λ l. told j i .ahead (omega arith) .1)
 
 -- A day on it is still the next, unless it was that day's.

@@ -20,7 +20,7 @@ use Rattle.stretch.specs.Answers.{wingStretch}
 use Rattle.stretch.proofs.Answers.{stretch-promised}
 use Rattle.stretch.proofs.Neighbours.{stretch-is, still-for, already-for}
 use Rattle.record.specs.Record.{datedOf, afresh}
-use Rattle.record.specs.Steps.{sameMonthOn, dateOn, sameMonthBack, dateBack, hasStretch, lasts, kept, stretchOnward, rests, keptBack, stretchBackward, fastKeptOn, fastOnward, fastKeptBack, fastBackward, recordOn, recordBack}
+use Rattle.record.specs.Steps.{sameMonthOn, dateOn, sameMonthBack, dateBack, hasStretch, lasts, kept, stretchOnward, rests, keptBack, stretchBackward, hasFast, fastKeptOn, fastOnward, fastKeptBack, fastBackward, recordOn, recordBack}
 use Rattle.record.specs.declared.DayRecord.{DayRecord}
 use Rattle.record.proofs.Told.{afresh-told}
 
@@ -102,9 +102,9 @@ module _ (wing j : ℕ) (w : IsWing wing) (i : InRange j) where
       go false e = refl
 
   -- What the record's fast tells, if there is one.
-  fast-told : eqb (r .«no_fast») 0 ≡ true → NextFast j (r .«fast_month») (j + r .«fast_left»)
+  fast-told : hasFast r ≡ true → NextFast j (r .«fast_month») (j + r .«fast_left»)
   unfolding afresh
-  fast-told e = next-of j i (eqb-true _ 0 e)
+  fast-told e = next-of j i (ltb-true 0 _ e)
 
   fast-moves-on : InRange (j + 1) → fastOnward r ≡ fastAhead (j + 1)
   unfolding fastOnward afresh
@@ -114,9 +114,9 @@ module _ (wing j : ℕ) (w : IsWing wing) (i : InRange j) where
           (b : Bool) → fastKeptOn r ≡ b →
           cond b (record { month = r .«fast_month»; left = r .«fast_left» - 1; none = 0 }) (fastAhead (j + 1)) ≡ fastAhead (j + 1)
       go true e =
-          let l = ltb-true 0 (r .«fast_left») (and-right (eqb (r .«no_fast») 0) _ e) in
+          let l = ltb-true 0 (r .«fast_left») (and-right (hasFast r) _ e) in
           let f : r .«fast_left» - 1 ≡ j + r .«fast_left» - (j + 1) = omega arith in
-          rw f (sym (ahead-is (j + 1) _ _ k (still-next j _ _ (fast-told (and-left (eqb (r .«no_fast») 0) _ e)) (omega arith))))
+          rw f (sym (ahead-is (j + 1) _ _ k (still-next j _ _ (fast-told (and-left (hasFast r) _ e)) (omega arith))))
       go false e = refl
 
   fast-moves-back : InRange (j - 1) → fastBackward r (datedOf (j - 1)) ≡ fastAhead (j - 1)
@@ -128,8 +128,8 @@ module _ (wing j : ℕ) (w : IsWing wing) (i : InRange j) where
           cond b (record { month = r .«fast_month»; left = r .«fast_left» + 1; none = 0 }) (fastAhead (j - 1)) ≡ fastAhead (j - 1)
       go true e =
           let up : j ≡ j - 1 + 1 = omega arith in
-          let free = not-true _ (and-right (ltb (r .«fast_left») 400) _ (and-right (eqb (r .«no_fast») 0) _ e)) in
-          let t = subst (λ (d : ℕ). NextFast d (r .«fast_month») (j + r .«fast_left»)) up (fast-told (and-left (eqb (r .«no_fast») 0) _ e)) in
+          let free = not-true _ (and-right (ltb (r .«fast_left») 400) _ (and-right (hasFast r) _ e)) in
+          let t = subst (λ (d : ℕ). NextFast d (r .«fast_month») (j + r .«fast_left»)) up (fast-told (and-left (hasFast r) _ e)) in
           let f : r .«fast_left» + 1 ≡ j + r .«fast_left» - (j - 1) = omega arith in
           rw f (sym (ahead-is (j - 1) _ _ k (already-next (j - 1) _ _ t free)))
       go false e = refl

@@ -64,9 +64,12 @@ keptBack r x = let j = r .day - 1 in lasts r j && (leb (r .first) j || not (rest
 unfoldable pub stretchBackward : DayRecord → Dated → StretchAnswer
 stretchBackward r x = let j = r .day - 1 in cond (keptBack r x) (kept r j) (wingStretch (r .wing) j)
 
--- A day on the fast is kept until it is past, with a day less left.
+-- The record has a fast, of some month. A day on it is kept until it is past, with a day less left.
+abbrev pub hasFast : DayRecord → Bool
+hasFast r = ltb 0 (r .«fast_month»)
+
 abbrev pub fastKeptOn : DayRecord → Bool
-fastKeptOn r = eqb (r .«no_fast») 0 && ltb 0 (r .«fast_left»)
+fastKeptOn r = hasFast r && ltb 0 (r .«fast_left»)
 
 unfoldable pub fastOnward : DayRecord → Ahead
 fastOnward r =
@@ -76,7 +79,7 @@ fastOnward r =
 
 -- A day back it is kept, with a day more left, if on that date no fast may be kept. No fast is as far ahead as 400 days.
 abbrev pub fastKeptBack : DayRecord → Dated → Bool
-fastKeptBack r x = eqb (r .«no_fast») 0 && (ltb (r .«fast_left») 400 && not (mayFast (x .month) (x .date)))
+fastKeptBack r x = hasFast r && (ltb (r .«fast_left») 400 && not (mayFast (x .month) (x .date)))
 
 unfoldable pub fastBackward : DayRecord → Dated → Ahead
 fastBackward r x =

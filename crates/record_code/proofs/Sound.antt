@@ -8,7 +8,7 @@ use lib.Dec.{eqb, leb, ltb}
 use Rattle.laws.proofs.Tests.{and-left, and-right}
 use Rattle.laws.proofs.Promises.{Catches, ranged, either, caught-alike}
 use Rattle.days.specs.Range.{firstDay, lastDay, InRange, outOfRange}
-use Rattle.record.specs.Steps.{sameMonthOn, sameMonthBack, hasStretch, lasts, fastKeptOn, fastKeptBack}
+use Rattle.record.specs.Steps.{sameMonthOn, sameMonthBack, hasStretch, lasts, hasFast, fastKeptOn, fastKeptBack}
 use Rattle.record.specs.declared.DayRecord.{DayRecord}
 use Rattle.record.specs.declared.Dated.{Dated}
 
@@ -35,10 +35,10 @@ module _ (r : DayRecord) where
   lasts-sound j e = told-sound (and-left (hasStretch r) _ e)
 
   pub fast-on-sound : fastKeptOn r ≡ true → 1 ≤ r .«fast_left»
-  fast-on-sound e = ltb-true 0 (r .«fast_left») (and-right (eqb (r .«no_fast») 0) _ e)
+  fast-on-sound e = ltb-true 0 (r .«fast_left») (and-right (hasFast r) _ e)
 
   pub fast-back-sound : (x : Dated) → fastKeptBack r x ≡ true → r .«fast_left» < 400
-  fast-back-sound x e = ltb-true (r .«fast_left») 400 (and-left _ _ (and-right (eqb (r .«no_fast») 0) _ e))
+  fast-back-sound x e = ltb-true (r .«fast_left») 400 (and-left _ _ (and-right (hasFast r) _ e))
 
 -- A day on, and a day back, within the range.
 below : (a b : ℕ) → Catches (ltb a b) (b ≤ a)

@@ -12,7 +12,7 @@ pub fn on(r: DayRecord) -> Ahead
     requires { ⌜ (InRange (r .day)) × (InRange (r .day + 1)) ⌝ }
     ensures { λ f. ⌜ f ≡ fastOnward r ⌝ }
 {
-    if (r.no_fast == 0) & (0 < r.fast_left) {
+    if (0 < r.fast_month) & (0 < r.fast_left) {
         return Ahead {
             month: r.fast_month,
             left: r.fast_left - 1,
@@ -28,7 +28,7 @@ pub fn back(r: DayRecord, x: Dated) -> Ahead
     ensures { λ f. ⌜ f ≡ fastBackward r x ⌝ }
 {
     let may = fasts_code::may_fast(x.month, x.date);
-    if (r.no_fast == 0) & ((r.fast_left < 400) & !may) {
+    if (0 < r.fast_month) & ((r.fast_left < 400) & !may) {
         return Ahead {
             month: r.fast_month,
             left: r.fast_left + 1,
