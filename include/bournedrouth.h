@@ -47,9 +47,9 @@
  * Within a major version no call, struct, field, number or answer that stands here changes or goes, and a program that
  * was built with an earlier minor version builds and is answered as it was. A minor version adds.
  */
-#define BD_VERSION_MAJOR 5
-#define BD_VERSION_MINOR 1
-#define BD_VERSION "5.1"
+#define BD_VERSION_MAJOR 6
+#define BD_VERSION_MINOR 0
+#define BD_VERSION "6.0"
 
 #ifdef __cplusplus
 extern "C" {
@@ -302,9 +302,9 @@ typedef struct bd_stretch_answer {
 } bd_stretch_answer;
 
 /*
- * What a list or a sheet tells. A list's count has two units: how many rest days or stretches were written or, with
- * BD_BUFFER_TOO_SHORT, how many entries of the buffer are wanted. A sheet's count is bytes, written or wanted. NULL and
- * 0 ask for the room:
+ * What a list or a sheet tells. A list's count has two units: how many rest days, stretches or fasts were written or,
+ * with BD_BUFFER_TOO_SHORT, how many entries of the buffer are wanted. A sheet's count is bytes, written or wanted.
+ * NULL and 0 ask for the room:
  *
  *     bd_list_answer room = bd_stretches(BD_WING_1, 5762, NULL, 0);  // BD_BUFFER_TOO_SHORT, and a count of 112 entries
  *     uint64_t *out = malloc(room.count * sizeof *out);
@@ -342,6 +342,24 @@ bd_list_answer bd_rest_days(uint64_t wing, uint64_t year, uint64_t *out, size_t 
  */
 bd_list_answer bd_stretches(uint64_t wing, uint64_t year, uint64_t *out, size_t length);
 
+/* ---- Fasts ---- */
+
+/*
+ * The five fasts of a year, on which the kitchens draw almost nothing: Tishri 3, Tevet 10, Adar 13 (code 7, also in a
+ * leap year), Tammuz 17 and Av 9. Where that date is a Saturday, Tishri's, Tammuz's and Av's are kept on the Sunday and
+ * Adar's on the Thursday before; Tevet's never is. A fast that is moved stays in its month, so that its month code says
+ * which it is. Both wings have the same fasts. They say nothing of the bank.
+ */
+
+/* Entries with room for the fasts of any year. */
+#define BD_FASTS_ROOM 5
+
+/*
+ * Writes the day numbers of a year's five fasts, rising, and tells 5. Refusals: 1, 10. A refused call leaves the whole
+ * buffer as it was; otherwise the entries beyond the list stay as they were.
+ */
+bd_list_answer bd_fasts(uint64_t year, uint64_t *out, size_t length);
+
 /* ---- The panel's day record ---- */
 
 /*
@@ -352,10 +370,11 @@ bd_list_answer bd_stretches(uint64_t wing, uint64_t year, uint64_t *out, size_t 
  *     if (bd_record_set(&record, BD_WING_1, day) != BD_DONE) return;  // or say why
  *     if (bd_record_next(&record) == BD_DONE) show(&record);  // else it stands on the last day of the range
  *
- * After any such calls on a new record it is either still new or tells of its day and wing what bd_day_to_hebrew and
- * bd_stretch tell. A refused call alters nothing, so that the record goes on telling of the day that it stood on: look
- * at the refusal. Look at `none` before the three numbers above it: on the last four days of the range no stretch is
- * left, and they are 0, as days left are on the first day of a stretch.
+ * After any such calls on a new record it is either still new or tells of its day and wing what bd_day_to_hebrew,
+ * bd_stretch and bd_fasts tell. A refused call alters nothing, so that the record goes on telling of the day that it
+ * stood on: look at the refusal. Look at `none` before the three numbers above it: on the last four days of the range
+ * no stretch is left, and they are 0, as days left are on the first day of a stretch. So look at `no_fast` before the
+ * two above it, which are 0 on the last fifty days, after the last fast: days left are 0 on a fast too.
  *
  * The numbers are the panel's to read and these calls' to write. A record that was changed by hand, or kept where it
  * may be spoilt, is safe and each call ends, but it may be moved to something that is not so: set it again.
@@ -371,6 +390,9 @@ typedef struct bd_record {
     int64_t days_left; /* -2..6, and 0 or less on a day of the stretch */
     uint64_t none; /* 1: no stretch is left, and the three above are 0; else 0 */
     uint64_t remaining; /* days of the year after the day: 0 on 29 Elul */
+    uint64_t fast_month; /* month code of the next fast, on the day or later */
+    uint64_t fast_left; /* days left until it: 0 on the fast, and never below */
+    uint64_t no_fast; /* 1: no fast is left in range, and the two above are 0; else 0 */
 } bd_record;
 
 /* Sets a record to a day, and to the wing that it keeps when it is moved. Refusals, told as the number alone: 15, 4. */

@@ -31,6 +31,7 @@ void civil_dates(void);
 void new_years(void);
 void hebrew_dates(void);
 void rest_days(void);
+void fasts(void);
 void every_year(void);
 void every_day(void);
 void records(void);

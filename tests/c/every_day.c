@@ -1,8 +1,8 @@
 /*
  * Every day of the range against a walk of this file's own: three calendars turned over day by day, a weekday counted
  * round the seven, and each wing's runs of rest days as they come. The dates and stretches of a year are held against
- * those of the first year of its kind too. A record of each wing is moved on from the first day to the last, and from each
- * day back to the one before.
+ * those of the first year of its kind too. The fasts are noted as they come, each by its date and weekday. A record of each
+ * wing is moved on from the first day to the last, and from each day back to the one before.
  */
 #include <string.h>
 
@@ -96,6 +96,64 @@ static void note(uint64_t wing, uint64_t day, const hebrew *h, int keeps)
     count[wing] = 0;
 }
 
+static uint32_t fasts_at[LAST - FIRST + 1]; /* the day of the next fast, on the day or later; 0 where there is none */
+static unsigned char fast_months[LAST - FIRST + 1]; /* of a day that is a fast, its month code */
+
+/* Each fast's month code and day, and the day and the weekday of its month on which it is kept instead of a Saturday. */
+static const unsigned char FASTS[BD_FASTS_ROOM][4] = {
+    {1, 3, 4, BD_SUNDAY}, {4, 10, 0, 0}, {7, 13, 11, BD_THURSDAY}, {11, 17, 18, BD_SUNDAY}, {12, 9, 10, BD_SUNDAY},
+};
+
+static int is_fast(const hebrew *h, uint64_t weekday)
+{
+    for (size_t i = 0; i < COUNT(FASTS); ++i) {
+        if (FASTS[i][0] != h->month) continue;
+        if (h->day == FASTS[i][1]) return weekday != BD_SATURDAY;
+        return h->day == FASTS[i][2] && weekday == FASTS[i][3];
+    }
+    return 0;
+}
+
+/* Notes the fasts of a year as they come, and holds the year's list against them on its last day. */
+static void note_fast(uint64_t day, const hebrew *h, uint64_t weekday)
+{
+    static uint64_t list[BD_FASTS_ROOM + 1], count;
+    uint64_t out[BD_FASTS_ROOM];
+    if (is_fast(h, weekday)) {
+        same("fasts of a year, beyond five", count < BD_FASTS_ROOM, 1);
+        fast_months[day - FIRST] = (unsigned char)h->month;
+        list[count++] = day;
+    }
+    if (h->month != BD_ELUL || h->day != 29) return;
+    asking("bd_fasts(%" PRIu64 ", out, %zu)", h->year, COUNT(out));
+    bd_list_answer got = bd_fasts(h->year, out, COUNT(out));
+    same("refusal", got.refusal, 0), same("count", got.count, count), same("fasts of the year", count, BD_FASTS_ROOM);
+    for (size_t i = 0; i < count; ++i) same("entry", out[i], list[i]);
+    wanted(bd_fasts(h->year, NULL, 0), count);
+    count = 0;
+}
+
+/* From the last day back, each day's next fast. */
+static void find_fasts(void)
+{
+    uint32_t next = 0;
+    for (uint64_t day = LAST + 1; day-- > FIRST;) {
+        if (fast_months[day - FIRST] != 0) next = (uint32_t)day;
+        fasts_at[day - FIRST] = next;
+    }
+    asking("the last fast of the range");
+    same("day", fasts_at[LAST - 50 - FIRST], LAST - 50), same("the next day's", fasts_at[LAST - 49 - FIRST], 0);
+}
+
+/* A record tells the next fast, or none. */
+static void record_fast(const bd_record *r)
+{
+    uint64_t next = fasts_at[r->day - FIRST];
+    same("month of the record's fast", r->fast_month, next == 0 ? 0 : fast_months[next - FIRST]);
+    same("days left until the record's fast", r->fast_left, next == 0 ? 0 : next - r->day);
+    same("flag of the record's fast", r->no_fast, next == 0);
+}
+
 static void civil_day(uint64_t day, const civil *c)
 {
     bd_civil_date date = c->gregorian ? bd_day_to_gregorian(day) : bd_day_to_julian(day);
@@ -161,10 +219,11 @@ static void record_date(uint64_t wing, uint64_t day, const hebrew *h)
     same("days remaining", r->remaining, new_year_of(h->year) + h->length - 1 - day);
 }
 
-/* A record that stands on its day tells the stretch, or none; it is moved on, and from there back to what it was. */
+/* A record that stands on its day tells its fast and its stretch; it is moved on, and from there back to what it was. */
 static void record_stretch(bd_record *r, uint64_t first, uint64_t length, int64_t days_left, uint64_t none)
 {
     bd_record was = *r;
+    record_fast(r);
     same("first of the record", r->first, first), same("length of the record", r->length, length);
     same_signed("days left of the record", r->days_left, days_left), same("flag of the record", r->none, none);
     same("refusal of the record", bd_record_next(r), was.day < LAST ? BD_DONE : BD_DAY_OUT_OF_RANGE);
@@ -239,13 +298,14 @@ void every_day(void)
     civil julian = {-3760, 10, 7, 0}, gregorian = {-3760, 9, 7, 1};
     hebrew h = {1, 1, 1, year_length(1)};
     uint64_t weekday = BD_MONDAY;
-    begin("every day in three calendars, every rest day, stretch and record of both wings");
+    begin("every day in three calendars, every fast, and every rest day, stretch and record of both wings");
     for (uint64_t day = FIRST; day <= LAST; ++day) {
         asking("day %" PRIu64, day);
         same("weekday", bd_weekday(day).weekday, weekday);
         civil_day(day, &julian), civil_day(day, &gregorian);
         hebrew_day(day, &h);
         date_of_kind(&h, weekday);
+        note_fast(day, &h, weekday);
         uint64_t from = kept_from(&h);
         for (uint64_t wing = 1; wing <= WINGS; ++wing) {
             rests[wing][day - FIRST] = weekday == BD_SATURDAY || from <= wing;
@@ -259,6 +319,7 @@ void every_day(void)
     same("Hebrew year", h.year, YEARS + 1);
     asking("the rest days of a year in the wing that keeps most");
     same("BD_REST_DAYS_ROOM", BD_REST_DAYS_ROOM, COUNT(TABLE));
+    find_fasts();
     stretches(BD_WING_1, BD_STRETCHES_ROOM);
     stretches(BD_GUEST_WING, 118);
     end();

@@ -13,7 +13,7 @@
 
 #include "raw.h"
 
-enum { AROUND = 8, MOST = 10 };
+enum { AROUND = 8, MOST = 13 };
 
 static uint64_t room[AROUND + MOST + AROUND];
 
@@ -143,19 +143,19 @@ static void sheet_structs(void)
 static void record_struct(void)
 {
     same("refusal of a record set", raw_record_set(fresh(), BD_GUEST_WING, 2456942), 0);
-    WORDS(bd_record, 2456942, 2, 5775, 1, 17, 2456940, 3, (uint64_t)INT64_C(-2), 0, 337);
+    WORDS(bd_record, 2456942, 2, 5775, 1, 17, 2456940, 3, (uint64_t)INT64_C(-2), 0, 337, 4, 82, 0);
     same("refusal of a record moved back", raw_record_back(room + AROUND), 0);
-    WORDS(bd_record, 2456941, 2, 5775, 1, 16, 2456940, 3, (uint64_t)INT64_C(-1), 0, 338);
+    WORDS(bd_record, 2456941, 2, 5775, 1, 16, 2456940, 3, (uint64_t)INT64_C(-1), 0, 338, 4, 83, 0);
     same("refusal of a record moved on", raw_record_next(room + AROUND), 0);
-    WORDS(bd_record, 2456942, 2, 5775, 1, 17, 2456940, 3, (uint64_t)INT64_C(-2), 0, 337);
+    WORDS(bd_record, 2456942, 2, 5775, 1, 17, 2456940, 3, (uint64_t)INT64_C(-2), 0, 337, 4, 82, 0);
     same("refusal of the last day", raw_record_set(room + AROUND, BD_WING_1, BD_LAST_DAY), 0);
-    WORDS(bd_record, BD_LAST_DAY, 1, 9999, 13, 29, 0, 0, 0, 1, 0);
+    WORDS(bd_record, BD_LAST_DAY, 1, 9999, 13, 29, 0, 0, 0, 1, 0, 0, 0, 1);
     same("refusal behind the last day", raw_record_next(room + AROUND), 4);
     same("refusal of wing 3", raw_record_set(room + AROUND, 3, 2456942), 15);
-    WORDS(bd_record, BD_LAST_DAY, 1, 9999, 13, 29, 0, 0, 0, 1, 0);
+    WORDS(bd_record, BD_LAST_DAY, 1, 9999, 13, 29, 0, 0, 0, 1, 0, 0, 0, 1);
     AT(bd_record, day, 0), AT(bd_record, wing, 1), AT(bd_record, year, 2), AT(bd_record, month, 3), AT(bd_record, date, 4);
     AT(bd_record, first, 5), AT(bd_record, length, 6), AT(bd_record, days_left, 7), AT(bd_record, none, 8);
-    AT(bd_record, remaining, 9);
+    AT(bd_record, remaining, 9), AT(bd_record, fast_month, 10), AT(bd_record, fast_left, 11), AT(bd_record, no_fast, 12);
 }
 
 /* The header's own call. */
@@ -187,5 +187,6 @@ void layout(void)
     PAIR(bd_month_answer, days, bd_month_length(5762, 1), 30);
     PAIR(bd_hebrew_day, day, bd_hebrew_to_day(5762, 8, 15), 2452362);
     PAIR(bd_list_answer, count, bd_rest_days(BD_GUEST_WING, 5762, entries, COUNT(entries)), 13);
+    PAIR(bd_list_answer, count, bd_fasts(5784, entries, COUNT(entries)), 5);
     end();
 }

@@ -65,6 +65,7 @@ int main(void)
     new_years();
     hebrew_dates();
     rest_days();
+    fasts();
     every_year();
     every_day();
     records();

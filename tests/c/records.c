@@ -12,14 +12,15 @@ static const bd_record NEW;
 
 /* The numbers of a record in their order. */
 static const bd_record ROWS[] = {
-    {2456925, 1, 5774, 13, 29, 2456926, 3, 1, 0, 0},   {2456926, 1, 5775, 1, 1, 2456926, 3, 0, 0, 353},
-    {2456928, 1, 5775, 1, 3, 2456926, 3, -2, 0, 351},  {2456929, 1, 5775, 1, 4, 2456935, 1, 6, 0, 350},
-    {2452186, 1, 5762, 1, 16, 2452189, 1, 3, 0, 338},  {2452186, 2, 5762, 1, 16, 2452185, 2, -1, 0, 338},
-    {347998, 1, 1, 1, 1, 347998, 2, 0, 0, 354},        {347998, 2, 1, 1, 1, 347998, 2, 0, 0, 354},
-    {4000066, 1, 9999, 13, 20, 4000071, 1, 5, 0, 9},   {4000070, 2, 9999, 13, 24, 4000071, 1, 1, 0, 5},
-    {4000071, 1, 9999, 13, 25, 4000071, 1, 0, 0, 4},   {4000072, 1, 9999, 13, 26, 0, 0, 0, 1, 3},
-    {4000073, 2, 9999, 13, 27, 0, 0, 0, 1, 2},         {4000074, 1, 9999, 13, 28, 0, 0, 0, 1, 1},
-    {4000075, 2, 9999, 13, 29, 0, 0, 0, 1, 0},
+    {2456925, 1, 5774, 13, 29, 2456926, 3, 1, 0, 0, 1, 4, 0},   {2456926, 1, 5775, 1, 1, 2456926, 3, 0, 0, 353, 1, 3, 0},
+    {2456928, 1, 5775, 1, 3, 2456926, 3, -2, 0, 351, 1, 1, 0},  {2456929, 1, 5775, 1, 4, 2456935, 1, 6, 0, 350, 1, 0, 0},
+    {2456930, 1, 5775, 1, 5, 2456935, 1, 5, 0, 349, 4, 94, 0},  {2452186, 1, 5762, 1, 16, 2452189, 1, 3, 0, 338, 4, 83, 0},
+    {2452186, 2, 5762, 1, 16, 2452185, 2, -1, 0, 338, 4, 83, 0}, {347998, 1, 1, 1, 1, 347998, 2, 0, 0, 354, 1, 2, 0},
+    {347998, 2, 1, 1, 1, 347998, 2, 0, 0, 354, 1, 2, 0},        {4000025, 1, 9999, 12, 9, 4000029, 1, 4, 0, 50, 12, 0, 0},
+    {4000026, 1, 9999, 12, 10, 4000029, 1, 3, 0, 49, 0, 0, 1},  {4000066, 1, 9999, 13, 20, 4000071, 1, 5, 0, 9, 0, 0, 1},
+    {4000070, 2, 9999, 13, 24, 4000071, 1, 1, 0, 5, 0, 0, 1},   {4000071, 1, 9999, 13, 25, 4000071, 1, 0, 0, 4, 0, 0, 1},
+    {4000072, 1, 9999, 13, 26, 0, 0, 0, 1, 3, 0, 0, 1},         {4000073, 2, 9999, 13, 27, 0, 0, 0, 1, 2, 0, 0, 1},
+    {4000074, 1, 9999, 13, 28, 0, 0, 0, 1, 1, 0, 0, 1},         {4000075, 2, 9999, 13, 29, 0, 0, 0, 1, 0, 0, 0, 1},
 };
 
 static void same_record(const bd_record *got, const bd_record *want)
@@ -28,6 +29,8 @@ static void same_record(const bd_record *got, const bd_record *want)
     same("month", got->month, want->month), same("date", got->date, want->date), same("first", got->first, want->first);
     same("length", got->length, want->length), same_signed("days_left", got->days_left, want->days_left);
     same("none", got->none, want->none), same("remaining", got->remaining, want->remaining);
+    same("fast_month", got->fast_month, want->fast_month), same("fast_left", got->fast_left, want->fast_left);
+    same("no_fast", got->no_fast, want->no_fast);
 }
 
 /* A record of these numbers, and what it must be after a call. */
@@ -65,14 +68,31 @@ static void rows(void)
     }
 }
 
+/* The next fast, on the day or later, out of the lists of the day's year and of the next. */
+static void gather_fast(bd_record *all, uint64_t year)
+{
+    uint64_t days[2 * BD_FASTS_ROOM] = {0};
+    uint64_t n = bd_fasts(year, days, BD_FASTS_ROOM).count;
+    if (year < YEARS) n += bd_fasts(year + 1, days + n, BD_FASTS_ROOM).count;
+    for (uint64_t i = 0; i < n; ++i) {
+        if (days[i] < all->day) continue;
+        all->fast_month = bd_day_to_hebrew(days[i]).month;
+        all->fast_left = days[i] - all->day;
+        return;
+    }
+    all->no_fast = 1;
+}
+
 /* What the calls that own its numbers tell of a day, in one record. */
 static bd_record gathered(uint64_t wing, uint64_t day)
 {
     bd_hebrew_date date = bd_day_to_hebrew(day);
     bd_stretch_answer stretch = bd_stretch(wing, day);
-    bd_record all = {day, wing, date.year, date.month, date.day, stretch.first, stretch.length, stretch.days_left, 0, 0};
+    bd_record all = {day, wing, date.year, date.month, date.day, stretch.first, stretch.length, stretch.days_left,
+                     0,   0,    0,         0,          0};
     all.none = stretch.refusal == BD_NO_STRETCH;
     all.remaining = date.new_year + date.length - 1 - day;
+    gather_fast(&all, date.year);
     return all;
 }
 
@@ -107,7 +127,7 @@ static void years(uint64_t wing)
         walked(wing, year > 1 ? from - 10 : from, to);
     }
     walked(wing, BD_FIRST_DAY, BD_FIRST_DAY + 9);
-    walked(wing, BD_LAST_DAY - 9, BD_LAST_DAY);
+    walked(wing, BD_LAST_DAY - 59, BD_LAST_DAY);
 }
 
 /* Days outside the range, some of whose low half is a good number. */
@@ -151,7 +171,7 @@ static void spoilt(const bd_record *from)
 static void spoilt_by(uint64_t wing, uint64_t number)
 {
     const bd_record good = gathered(wing, 2456928), after = gathered(wing, 2456929), before = gathered(wing, 2456927);
-    bd_record all = good, zeros = {2456928, wing, 0, 0, 0, 0, 0, 0, 0, 0}, back = zeros;
+    bd_record all = good, zeros = {2456928, wing, 0, 0, 0, 0, 0, 0, 0, 0, 0, 0, 0}, back = zeros;
     for (size_t i = 2 * sizeof number; i < sizeof all; i += sizeof number) {
         bd_record one = good;
         memcpy((char *)&one + i, &number, sizeof number), spoilt(&one);

@@ -3,6 +3,8 @@
 
 #include "check.h"
 
+#include "lists.h"
+
 typedef struct {
     uint64_t day, first, length;
     int64_t days_left;
@@ -66,9 +68,8 @@ static const uint64_t GUEST_STRETCHES_5775[] = {
     2457264, 1, 2457271, 1, 2457278, 1,
 };
 
-/* What is refused: the numbers beside the good ones, some whose low half is a good number, and the largest. */
+/* Days that are refused: the numbers beside the good ones, one whose low half is a good number, and the largest. */
 static const uint64_t BAD_DAYS[] = {0, BD_FIRST_DAY - 1, BD_LAST_DAY + 1, (UINT64_C(1) << 32) + 2456928, UINT64_MAX};
-static const uint64_t BAD_YEARS[] = {0, 10000, (UINT64_C(1) << 32) + 5762, UINT64_MAX};
 
 static void stretch(uint64_t wing, uint64_t day, uint64_t refusal, const stretch_row *want)
 {
@@ -87,65 +88,13 @@ static void stretch_rows(uint64_t wing, const stretch_row *rows, size_t count)
     for (size_t i = 0; i < COUNT(BAD_DAYS); ++i) stretch(wing, BAD_DAYS[i], BD_DAY_OUT_OF_RANGE, &NO_STRETCH);
 }
 
-typedef struct {
-    const char *name;
-    bd_list_answer (*call)(uint64_t wing, uint64_t year, uint64_t *out, size_t length);
-} lister;
-
 static const lister REST_DAYS = {"bd_rest_days", bd_rest_days}, STRETCHES = {"bd_stretches", bd_stretches};
-
-enum { AROUND = 4, ROOM = 200 };
-
-static uint64_t room[AROUND + ROOM + AROUND];
-
-/* Lends `length` entries: the answer is as wanted, the list stands at their start, and every other word is as it was. */
-static void lend(const lister *list, uint64_t wing, uint64_t year, size_t length, uint64_t refusal, uint64_t count,
-                 const uint64_t *want, size_t entries)
-{
-    for (size_t i = 0; i < COUNT(room); ++i) room[i] = GUARD + i;
-    bd_list_answer got = list->call(wing, year, room + AROUND, length);
-    asking("%s(%" PRIu64 ", %" PRIu64 ", out, %zu)", list->name, wing, year, length);
-    same("refusal", got.refusal, refusal);
-    same("count", got.count, count);
-    for (size_t i = 0; i < COUNT(room); ++i) {
-        int inside = i >= AROUND && i < AROUND + entries;
-        same(inside ? "entry" : "entry beyond the list", room[i], inside ? want[i - AROUND] : GUARD + i);
-    }
-}
-
-/* NULL and 0 ask for the room; the walk over every year asks so too. */
-static void no_buffer(const lister *list, uint64_t wing, uint64_t year, uint64_t refusal, uint64_t count)
-{
-    bd_list_answer got = list->call(wing, year, NULL, 0);
-    asking("%s(%" PRIu64 ", %" PRIu64 ", NULL, 0)", list->name, wing, year);
-    same("refusal", got.refusal, refusal), same("count", got.count, count);
-}
-
-/* A list into every length of buffer from none to more than enough. */
-static void every_length(const lister *list, uint64_t wing, uint64_t year, uint64_t count, const uint64_t *want,
-                         size_t entries)
-{
-    no_buffer(list, wing, year, BD_BUFFER_TOO_SHORT, entries);
-    for (size_t length = 0; length < entries; ++length)
-        lend(list, wing, year, length, BD_BUFFER_TOO_SHORT, entries, NULL, 0);
-    lend(list, wing, year, entries, BD_DONE, count, want, entries);
-    lend(list, wing, year, entries + 1, BD_DONE, count, want, entries);
-    lend(list, wing, year, ROOM, BD_DONE, count, want, entries);
-}
-
-/* Refused whatever is lent: more room than enough, none, or no buffer. */
-static void refused(const lister *list, uint64_t wing, uint64_t year, uint64_t refusal)
-{
-    lend(list, wing, year, ROOM, refusal, 0, NULL, 0);
-    lend(list, wing, year, 0, refusal, 0, NULL, 0);
-    no_buffer(list, wing, year, refusal, 0);
-}
 
 static void bad_years(uint64_t wing, uint64_t refusal)
 {
     for (size_t i = 0; i < COUNT(BAD_YEARS); ++i) {
-        refused(&REST_DAYS, wing, BAD_YEARS[i], refusal);
-        refused(&STRETCHES, wing, BAD_YEARS[i], refusal);
+        refused_list(&REST_DAYS, wing, BAD_YEARS[i], refusal);
+        refused_list(&STRETCHES, wing, BAD_YEARS[i], refusal);
     }
 }
 
@@ -155,8 +104,8 @@ static void bad_wing(uint64_t wing)
     stretch(wing, 2456928, BD_BAD_WING, &NO_STRETCH);
     stretch(wing, BD_LAST_DAY, BD_BAD_WING, &NO_STRETCH);
     for (size_t i = 0; i < COUNT(BAD_DAYS); ++i) stretch(wing, BAD_DAYS[i], BD_BAD_WING, &NO_STRETCH);
-    refused(&REST_DAYS, wing, 5762, BD_BAD_WING);
-    refused(&STRETCHES, wing, 5762, BD_BAD_WING);
+    refused_list(&REST_DAYS, wing, 5762, BD_BAD_WING);
+    refused_list(&STRETCHES, wing, 5762, BD_BAD_WING);
     bad_years(wing, BD_BAD_WING);
 }
 
