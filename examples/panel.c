@@ -1,7 +1,7 @@
 /*
  * A battery room's panel, to start from: for a wing, a civil date, a time and the hall's sunset it shows the Hebrew
- * day, whether the bank carries the load, and the days left to the first day of the wing's stretch of rest days. Then
- * keys may be pressed: + and - show the days after and before it.
+ * day, whether the bank carries the load, the days left to the first day of the wing's stretch of rest days, and for
+ * the kitchens the next fast. Then keys may be pressed: + and - show the days after and before it.
  *
  *     panel 1 2014-09-24 20:00 18:52
  *     panel 1 2014-09-24 20:00 18:52 +++-
@@ -14,7 +14,8 @@
  *
  * The days left have a sign, and they decide: on the second and third day of a stretch they are -1 and -2, and the bank
  * stays on the load. Where the record says that no stretch is left the bank is off the load. After a refusal nothing is
- * known, and nothing is shown but why. A key shows another day, and so nothing of the bank as it is now.
+ * known, and nothing is shown but why. A key shows another day, and so nothing of the bank as it is now. A fast says
+ * nothing of the bank.
  */
 #include <inttypes.h>
 #include <stdbool.h>
@@ -109,12 +110,17 @@ static bool since_sunset(const moment *m) { return m->time >= m->sunset; }
 
 static void show_clock(uint64_t time) { printf("%02" PRIu64 ":%02" PRIu64, time / HOUR, time % HOUR); }
 
-/* The Hebrew day that the record stands on. The name of Adar alone wants the year's length. */
+/* A month of the record's year. The name of Adar alone wants the year's length. */
+static const char *month_name(const bd_record *record, uint64_t month)
+{
+    return bd_month_name(month, month == BD_ADAR ? bd_year(record->year).length : 0);
+}
+
+/* The Hebrew day that the record stands on. */
 static void show_day(const bd_record *record)
 {
-    uint64_t length = record->month == BD_ADAR ? bd_year(record->year).length : 0;
     printf("%s, %" PRIu64 " %s %" PRIu64, bd_weekday_name(bd_weekday(record->day).weekday), record->date,
-           bd_month_name(record->month, length), record->year);
+           month_name(record, record->month), record->year);
 }
 
 static void show_days_left(const bd_record *record)
@@ -126,7 +132,21 @@ static void show_days_left(const bd_record *record)
         printf("%" PRId64, record->days_left);
 }
 
-/* Shows the wing, a moment of a civil day, the Hebrew day that it lies in, and the bank. */
+/* The next fast, for the kitchens. Adar's comes in the record's own year: Tevet's is before it. */
+static void show_fast(const bd_record *record)
+{
+    if (record->no_fast) {
+        printf("no fast left");
+        return;
+    }
+    printf("fast of %s ", month_name(record, record->fast_month));
+    if (record->fast_left == 0)
+        printf("on this day");
+    else
+        printf("in %" PRIu64 " day%s", record->fast_left, record->fast_left == 1 ? "" : "s");
+}
+
+/* Shows the wing, a moment of a civil day, the Hebrew day that it lies in, the bank, and the next fast. */
 static void show_now(const moment *m, uint64_t civil, const bd_record *record)
 {
     printf("wing %" PRIu64 ", %" PRId64 "-%02" PRIu64 "-%02" PRIu64 " %s ", record->wing, m->year, m->month, m->date,
@@ -138,6 +158,8 @@ static void show_now(const moment *m, uint64_t civil, const bd_record *record)
     show_day(record);
     printf("\nbank %s the load\n", !record->none && record->days_left <= 0 ? "ON" : "off");
     show_days_left(record);
+    printf("\n");
+    show_fast(record);
     printf("\n");
 }
 
@@ -159,7 +181,9 @@ static int press(const char *keys, const char *date, bd_record *record)
         show_day(record);
         printf(", ");
         show_days_left(record);
-        printf(", days remaining %" PRIu64 "\n", record->remaining);
+        printf(", days remaining %" PRIu64 ", ", record->remaining);
+        show_fast(record);
+        printf("\n");
     }
     return 0;
 }
