@@ -71,6 +71,9 @@ struct Record {
     days_left: i64,
     none: u64,
     remaining: u64,
+    fast_month: u64,
+    fast_left: u64,
+    no_fast: u64,
 }
 
 #[repr(C)]
@@ -105,6 +108,7 @@ extern "C" {
     fn bd_record_set(record: *mut Record, wing: u64, day: u64) -> u64;
     fn bd_record_next(record: *mut Record) -> u64;
     fn bd_record_back(record: *mut Record) -> u64;
+    fn bd_fasts(year: u64, out: *mut u64, length: usize) -> Pair;
     fn bd_stretches(wing: u64, year: u64, out: *mut u64, length: usize) -> Pair;
     fn bd_sheet_write(wing: u64, first_year: u64, years: u64, out: *mut u8, length: usize) -> Pair;
     fn bd_sheet_rows(wing: u64, sheet: *const u8, length: usize, year: u64) -> Rows;
@@ -124,6 +128,8 @@ const HOUR: u64 = 1080;
 const DAY: u64 = 24 * HOUR;
 const MONTH: u64 = 29 * DAY + 12 * HOUR + 793;
 const FIRST_DAY: u64 = 347_998;
+/// Month and day of each fast.
+const FAST_TABLE: [(u64, u64); 5] = [(1, 3), (4, 10), (7, 13), (11, 17), (12, 9)];
 /// Month, day and the first wing that keeps it: wing 2 keeps those of wing 1 too.
 const REST_TABLE: [(u64, u64, u64); 13] = [
     (1, 1, 1),
@@ -320,12 +326,48 @@ fn stretches(wing: u64, year: u64, new_year: u64, rest: &[(u64, u64)]) -> Vec<(u
     runs
 }
 
-/// What a wing's record tells on each day of a year, of which `ahead` are the stretches and the first of the next year.
-fn records_of(wing: u64, year: u64, new_year: u64, length: u64, ahead: &[(u64, u64)]) -> Vec<Record> {
+/// Every year's fasts: the day of each, and its month. A Saturday's is kept on the day after, but Adar's two days before.
+fn fasts(years: &[Begins]) -> Vec<Vec<(u64, u64)>> {
+    let mut all = Vec::new();
+    for (year, pair) in (1u64..).zip(years.windows(2)) {
+        let (new_year, length) = (pair[0].day, pair[1].day - pair[0].day);
+        let (mut first, mut want) = (new_year, Vec::new());
+        for (month, days) in months(year, length) {
+            if let Some(&(_, date)) = FAST_TABLE.iter().find(|row| row.0 == month) {
+                let day = first + date - 1;
+                let kept = if weekday(day) < 7 { day } else if month == 7 { day - 2 } else { day + 1 };
+                assert!((first..first + days).contains(&kept), "the fast of month {month} of {year} leaves it");
+                assert!(month != 4 || kept == day, "the fast of Tevet {year} is moved");
+                want.push((kept, month));
+            }
+            first += days;
+        }
+        let mut out = [u64::MAX; 7];
+        let got = unsafe { bd_fasts(year, out.as_mut_ptr(), out.len()) };
+        assert_eq!((got.refusal, got.number), (0, 5), "fasts of {year}");
+        assert!(out.iter().copied().eq(want.iter().map(|fast| fast.0).chain([u64::MAX; 2])), "fasts of {year}: {out:?}");
+        let got = unsafe { bd_fasts(year, out.as_mut_ptr(), 4) };
+        assert_eq!((got.refusal, got.number, out[0]), (10, 5, want[0].0), "fasts of {year} into four entries");
+        all.push(want);
+    }
+    for year in [0, 10_000, 1 << 32 | 5762, u64::MAX] {
+        let got = unsafe { bd_fasts(year, std::ptr::null_mut(), 0) };
+        assert_eq!((got.refusal, got.number), (1, 0), "fasts of {year}");
+    }
+    all
+}
+
+/// What a wing's record tells on each day of a year, of which `ahead` and `fasts` are the stretches and the fasts, and the
+/// first of each of the next year.
+fn records_of(wing: u64, year: u64, new_year: u64, length: u64, ahead: &[(u64, u64)], fasts: &[(u64, u64)]) -> Vec<Record> {
     let dates = months(year, length).into_iter().flat_map(|(month, days)| (1..=days).map(move |date| (month, date)));
     let tell = |(day, (month, date)): (u64, (u64, u64))| {
         let remaining = new_year + length - 1 - day;
         let told = Record { day, wing, year, month, date, remaining, ..Record::default() };
+        let told = match fasts.iter().find(|fast| day <= fast.0) {
+            Some(&(kept, fast_month)) => Record { fast_month, fast_left: kept - day, ..told },
+            None => Record { no_fast: 1, ..told },
+        };
         match ahead.iter().find(|&&(first, length)| day < first + length) {
             Some(&(first, length)) => Record { first, length, days_left: first as i64 - day as i64, ..told },
             None => Record { none: 1, ..told },
@@ -336,7 +378,7 @@ fn records_of(wing: u64, year: u64, new_year: u64, length: u64, ahead: &[(u64, u
 
 /// A wing's record, set to the first day and moved on to the last; from each year's end back to the year before; and refused
 /// at both ends and for bad numbers, which alters nothing. Returns how many moves were made.
-fn records(wing: u64, told: &[(u64, Vec<(u64, u64)>)]) -> u64 {
+fn records(wing: u64, told: &[(u64, Vec<(u64, u64)>)], fasts: &[Vec<(u64, u64)>]) -> u64 {
     let mut record = Record::default();
     let (mut day, mut moves, mut year_before) = (FIRST_DAY, 0, None);
     let refused = |record: &Record, refusal: u64, call: &dyn Fn(*mut Record) -> u64| {
@@ -350,7 +392,9 @@ fn records(wing: u64, told: &[(u64, Vec<(u64, u64)>)]) -> u64 {
     for (year, (length, runs)) in (1u64..).zip(told) {
         let next = told.get(year as usize).map(|(_, runs)| runs[0]);
         let ahead: Vec<(u64, u64)> = runs.iter().copied().chain(next).collect();
-        let want = records_of(wing, year, day, *length, &ahead);
+        let next = fasts.get(year as usize).map(|fasts| fasts[0]);
+        let fasts: Vec<(u64, u64)> = fasts[year as usize - 1].iter().copied().chain(next).collect();
+        let want = records_of(wing, year, day, *length, &ahead, &fasts);
         for (i, want) in want.iter().enumerate() {
             if year > 1 || i > 0 {
                 assert_eq!(unsafe { bd_record_next(&mut record) }, 0, "a record moved on to {}", want.day);
@@ -547,7 +591,9 @@ fn main() {
     }
     bad_wings();
     println!("Rust calls: Hebrew dates, months and both wings' stretches: {days} days");
-    let moves: u64 = (1u64..).zip(&told).map(|(wing, told)| records(wing, told)).sum();
+    let fasts = fasts(&years);
+    println!("Rust calls: every year's fasts: {} days", fasts.iter().map(Vec::len).sum::<usize>());
+    let moves: u64 = (1u64..).zip(&told).map(|(wing, told)| records(wing, told, &fasts)).sum();
     println!("Rust calls: both wings' records on every day: {moves} moves");
     let (mut bytes, mut read) = (0, 0);
     for (wing, told) in (1u64..).zip(&told) {
