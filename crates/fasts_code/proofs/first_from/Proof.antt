@@ -36,7 +36,7 @@ returns c =
     let l = f .before .before .before in
     let a = l .before .before .args in
     let h : l .loop .i < count (a .table .now) = omega arith in
-    rw (l .loop .inv .1, drop-cons (a .table .now) (l .loop .i) 0, ← f .fast-day .ensures, le-leb (a .day) (f .fast-day .result) (c .if1 .taken))
+    rw (l .loop .inv .1, drop-cons (a .table .now) (l .loop .i) 0, ← f .fast-day .ensures, le-leb (a .day) (f .fast-day .result) (omega arith))
 
 loop-again : tie.Need-loop-again Inv-loop μ-loop
 unfolding aheadIn
@@ -46,7 +46,7 @@ loop-again c =
     let a = l .before .before .args in
     let h : l .loop .i < count (a .table .now) = omega arith in (
       search needs,
-      l .loop .inv .1 ∙ rw (drop-cons (a .table .now) (l .loop .i) 0, ← f .fast-day .ensures, lt-leb (a .day) (f .fast-day .result) (c .if1 .left), add-one),
+      l .loop .inv .1 ∙ rw (drop-cons (a .table .now) (l .loop .i) 0, ← f .fast-day .ensures, lt-leb (a .day) (f .fast-day .result) (omega arith), add-one),
     )
 
 returns-2 : tie.Need-returns-2 Inv-loop μ-loop
