@@ -399,8 +399,8 @@ typedef struct bd_record {
 uint64_t bd_record_set(bd_record *record, uint64_t wing, uint64_t day);
 
 /*
- * Moves a record to the next day, for about a quarter of what setting it takes. Refusal, told as the number alone: 4
- * on the last day of the range, or if the record's day is outside it, as a new one's is. (15 if its day is in range
+ * Moves a record to the next day, for less than a third of what setting it takes. Refusal, told as the number alone:
+ * 4 on the last day of the range, or if the record's day is outside it, as a new one's is. (15 if its day is in range
  * and its wing neither 1 nor 2, as no record's is that was set.)
  */
 uint64_t bd_record_next(bd_record *record);
