@@ -16,7 +16,7 @@ use Rattle.fasts.specs.Fasts.{fastTable, keptOn, fastDay, fastDays}
 use Rattle.fasts.specs.Ahead.{noFast, aheadOf, aheadIn, fastAhead}
 use Rattle.fasts.specs.Fixed.{WordsFixed}
 use Rattle.fasts.specs.declared.Ahead.{Ahead}
-use Rattle.fasts.proofs.Found.{tishri-falls}
+use Rattle.fasts.proofs.Chosen.{tishri-falls}
 
 -- The day on which the fast of a row is kept, by the New Years n and `later` of its year and of the next; and the fast ahead of
 -- day j of that year, h.

@@ -1,15 +1,14 @@
 -- The fast that is found ahead of a day is the next one; and there is one exactly up to the fiftieth day from the range's end.
-use mathlib.Core.Path.{_≡_, refl, sym, ap}
-use mathlib.Core.Bool.{Bool, true, false, _||_, cond, or-true, false≢true}
+use mathlib.Core.Path.{_≡_, refl, ap}
+use mathlib.Core.Bool.{Bool, true, false, cond, or-true}
 use mathlib.Core.List.{List, [], _∷_}
 use mathlib.Core.Logic.{_⊎_, inl, inr, ⊎-elim, by-cases}
 use Prim.Native.Nat.{ℕ, _+_, _-_, _/_, _≤_, _<_}
 use native.Mathlib.Omega.{arith}
 use native.Mathlib.Decide.{ℕ-discrete, decLt}
-use borrow.Author.Tests.{eq-eqb, ne-eqb, leb-true, leb-false, ltb-true, ltb-false, lt-ltb, le-ltb}
+use borrow.Author.Tests.{eq-eqb, ne-eqb, leb-true, leb-false, ltb-true, ltb-false}
 use lib.Dec.{eqb, leb, ltb}
 use Rattle.laws.specs.Runs.{elem}
-use Rattle.laws.proofs.Tests.{or-left, or-right}
 use Rattle.days.specs.Range.{lastDay, InRange}
 use Rattle.molad.specs.Years.{lastYear, InYears}
 use Rattle.newyear.specs.NewYear.{newYear, yearLength, yearOf, InYear}
@@ -153,48 +152,6 @@ module _ (j : ℕ) (i : InRange j) where
       fastTable (five-rise h years)
       (λ r e p least. next-found j h r p (next-is j h r years e p earlier least))
       (λ past. next-year past (ltb h lastYear) refl)
-
--- How the fast ahead is chosen: what was found in the day's year stands if it is a fast, or if no year follows.
-none-found : (day : ℕ → ℕ) (j : ℕ) (table : List ℕ) → eqb (aheadIn day j table .none) 0 ≡ false → aheadIn day j table ≡ noFast
-unfolding aheadIn
-none-found day j [] e = refl
-none-found day j (r ∷ table) e = go (leb j (day r)) (none-found day j table) e
-  where
-    go :
-        (b : Bool) → (eqb (aheadIn day j table .none) 0 ≡ false → aheadIn day j table ≡ noFast) →
-        eqb (cond b (aheadOf j (r / 100) (day r)) (aheadIn day j table) .none) 0 ≡ false → cond b (aheadOf j (r / 100) (day r)) (aheadIn day j table) ≡ noFast
-    go true rest e = absurd (false≢true (sym e))
-    go false rest e = rest e
-
-module _ (j : ℕ) where
-  abbrev own : Ahead
-  own = aheadIn (fastDay (yearOf j)) j fastTable
-
-  pub own-stands : eqb (own .none) 0 || leb lastYear (yearOf j) ≡ true → own ≡ fastAhead j
-  unfolding fastAhead
-  own-stands e = go (eqb (own .none) 0) refl e
-    where
-      go :
-          (b : Bool) → eqb (own .none) 0 ≡ b → b || leb lastYear (yearOf j) ≡ true →
-          own ≡ cond b own (cond (ltb (yearOf j) lastYear) (aheadOf j 1 (fastDay (yearOf j + 1) (row 1 3))) noFast)
-      go true q e = refl
-      go false q e = let l = leb-true lastYear (yearOf j) e in rw (le-ltb (yearOf j) lastYear l) (none-found (fastDay (yearOf j)) j fastTable q)
-
-  pub next-stands :
-      InRange j → eqb (own .none) 0 || leb lastYear (yearOf j) ≡ false →
-      (fastAhead j ≡ aheadOf j 1 (fastDay (yearOf j + 1) (row 1 3))) × (j ≤ fastDay (yearOf j + 1) (row 1 3))
-  unfolding fastAhead
-  next-stands i e =
-      let y = held j (i .0) (i .1) in
-      let l : yearOf j < lastYear = leb-false lastYear (yearOf j) (or-right (eqb (own .none) 0) (leb lastYear (yearOf j)) e) in (
-        rw (or-left (eqb (own .none) 0) (leb lastYear (yearOf j)) e, lt-ltb (yearOf j) lastYear l),
-        omega (arith, y .before, fast-in-year (yearOf j + 1) (omega arith, omega arith) (row 1 3) refl .from),
-      )
-
--- Tishri's falls two days after New Year.
-pub tishri-falls : (h : ℕ) → fastDay h (row 1 3) ≡ keptOn 1 (newYear h + 2)
-unfolding fastDay dayNumber daysBefore monthLength
-tishri-falls h = let s : newYear h + 0 + 2 ≡ newYear h + 2 = omega arith in ap (keptOn 1) s
 
 -- The last fast of all is 9 Av 9999, fifty days before the range's end.
 module _ where

@@ -1,4 +1,5 @@
 pub mod Told
 pub mod Moves
 pub mod Answers
+pub mod Worked
 pub mod Fixed

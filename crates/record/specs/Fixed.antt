@@ -11,10 +11,9 @@ use Rattle.record.specs.Promises.{set, next, back, afterAll}
 use Rattle.record.specs.declared.DayRecord.{DayRecord}
 use Rattle.record.specs.declared.Moved.{Moved}
 
--- The day and the wing; year, month and date; first day, length and days left of the stretch; days remaining; the month code of
--- the fast ahead, and the days left until it.
-abbrev pub on : ℕ → ℕ → ℕ → ℕ → ℕ → ℕ → ℕ → ℤ → ℕ → ℕ → ℕ → DayRecord
-on j wing h code d first days left remaining fast until =
+-- A record by its numbers, in their order.
+abbrev pub told : ℕ → ℕ → ℕ → ℕ → ℕ → ℕ → ℕ → ℤ → ℕ → ℕ → ℕ → ℕ → ℕ → DayRecord
+told j wing h code d first days left none remaining fast until fastless =
     record {
       day = j;
       wing = wing;
@@ -24,68 +23,27 @@ on j wing h code d first days left remaining fast until =
       first = first;
       length = days;
       «days_left» = left;
-      none = 0;
+      none = none;
       remaining = remaining;
       «fast_month» = fast;
       «fast_left» = until;
-      «no_fast» = 0;
+      «no_fast» = fastless;
     }
 
--- The same without a fast: zeros, and the flag.
+-- The day and the wing; year, month and date; first day, length and days left of the stretch; days remaining; the month code of
+-- the fast ahead, and the days left until it.
+abbrev pub on : ℕ → ℕ → ℕ → ℕ → ℕ → ℕ → ℕ → ℤ → ℕ → ℕ → ℕ → DayRecord
+on j wing h code d first days left remaining fast until = told j wing h code d first days left 0 remaining fast until 0
+
+-- The same without a fast, and without a stretch too: zeros, and the flags.
 abbrev pub fastless : ℕ → ℕ → ℕ → ℕ → ℕ → ℕ → ℕ → ℤ → ℕ → DayRecord
-fastless j wing h code d first days left remaining =
-    record {
-      day = j;
-      wing = wing;
-      year = h;
-      month = code;
-      date = d;
-      first = first;
-      length = days;
-      «days_left» = left;
-      none = 0;
-      remaining = remaining;
-      «fast_month» = 0;
-      «fast_left» = 0;
-      «no_fast» = 1;
-    }
+fastless j wing h code d first days left remaining = told j wing h code d first days left 0 remaining 0 0 1
 
--- And without a stretch.
 abbrev pub onLast : ℕ → ℕ → ℕ → ℕ → ℕ → ℕ → DayRecord
-onLast j wing h code d remaining =
-    record {
-      day = j;
-      wing = wing;
-      year = h;
-      month = code;
-      date = d;
-      first = 0;
-      length = 0;
-      «days_left» = pos 0;
-      none = 1;
-      remaining = remaining;
-      «fast_month» = 0;
-      «fast_left» = 0;
-      «no_fast» = 1;
-    }
+onLast j wing h code d remaining = told j wing h code d 0 0 (pos 0) 1 remaining 0 0 1
 
 abbrev pub zeros : DayRecord
-zeros =
-    record {
-      day = 0;
-      wing = 0;
-      year = 0;
-      month = 0;
-      date = 0;
-      first = 0;
-      length = 0;
-      «days_left» = pos 0;
-      none = 0;
-      remaining = 0;
-      «fast_month» = 0;
-      «fast_left» = 0;
-      «no_fast» = 0;
-    }
+zeros = told 0 0 0 0 0 0 0 (pos 0) 0 0 0 0 0
 
 abbrev pub Done : Moved → DayRecord → Type 0
 Done m r = m ≡ record { refusal = 0; after = r }

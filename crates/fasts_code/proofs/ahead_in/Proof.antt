@@ -7,7 +7,7 @@ use Rattle.hebrew.specs.Rows.{row}
 use Rattle.fasts.specs.Fasts.{fastTable, fastDay}
 use Rattle.fasts.specs.Ahead.{aheadOf, aheadIn, fastAhead}
 use Rattle.fasts.proofs.Kept.{table-good}
-use Rattle.fasts.proofs.Found.{own-stands, next-stands, tishri-falls}
+use Rattle.fasts.proofs.Chosen.{own-stands, next-stands, tishri-falls}
 use Rattle.fasts_code.proofs.ahead_in.Statement.{statement}
 use Rattle.fasts_code.proofs.ahead_in.Tie as tie
 
