@@ -110,7 +110,7 @@ static bool since_sunset(const moment *m) { return m->time >= m->sunset; }
 
 static void show_clock(uint64_t time) { printf("%02" PRIu64 ":%02" PRIu64, time / HOUR, time % HOUR); }
 
-/* A month of the record's year. The name of Adar alone wants the year's length. */
+/* A month's name. Adar's alone wants the length of its year, the record's. */
 static const char *month_name(const bd_record *record, uint64_t month)
 {
     return bd_month_name(month, month == BD_ADAR ? bd_year(record->year).length : 0);
@@ -141,9 +141,10 @@ static void show_fast(const bd_record *record)
     }
     printf("fast of %s ", month_name(record, record->fast_month));
     if (record->fast_left == 0)
-        printf("on this day");
+        printf("on this day, ");
     else
-        printf("in %" PRIu64 " day%s", record->fast_left, record->fast_left == 1 ? "" : "s");
+        printf("in %" PRIu64 " day%s, on ", record->fast_left, record->fast_left == 1 ? "" : "s");
+    printf("%s", bd_weekday_name(bd_weekday(record->day + record->fast_left).weekday));
 }
 
 /* Shows the wing, a moment of a civil day, the Hebrew day that it lies in, the bank, and the next fast. */

@@ -23,6 +23,8 @@
  *     length given with it is 0 it may be NULL: it is proved that no entry and no byte is touched then, and seen in
  *     the archive's code and tested, for the lists of every year and for sheets, written and read, that no more is
  *     asked of the pointer.
+ *   - Header and archive must be of one version: nothing checks it, and a record or an answer of another length would be
+ *     written past its end.
  *   - A length must be true: at least so many numbers, or bytes, stand at the pointer. During the call nobody else
  *     uses what it writes, a record or a walker too, and nobody changes a sheet that it reads. Several calls may read
  *     one sheet at once.
@@ -347,8 +349,9 @@ bd_list_answer bd_stretches(uint64_t wing, uint64_t year, uint64_t *out, size_t 
 /*
  * The five fasts of a year, on which the kitchens draw almost nothing: Tishri 3, Tevet 10, Adar 13 (code 7, also in a
  * leap year), Tammuz 17 and Av 9. Where that date is a Saturday, Tishri's, Tammuz's and Av's are kept on the Sunday and
- * Adar's on the Thursday before; Tevet's never is. A fast that is moved stays in its month, so that its month code says
- * which it is. Both wings have the same fasts. They say nothing of the bank.
+ * Adar's on the Thursday before; 10 Tevet is never a Saturday. A fast that is moved stays in its month, so that its
+ * month code says which it is. A fast is a whole day, with the number of its daylight as every day; at which hour the
+ * kitchens stop is the hall's. Both wings have the same fasts. They say nothing of the bank.
  */
 
 /* Entries with room for the fasts of any year. */
@@ -370,11 +373,12 @@ bd_list_answer bd_fasts(uint64_t year, uint64_t *out, size_t length);
  *     if (bd_record_set(&record, BD_WING_1, day) != BD_DONE) return;  // or say why
  *     if (bd_record_next(&record) == BD_DONE) show(&record);  // else it stands on the last day of the range
  *
- * After any such calls on a new record it is either still new or tells of its day and wing what bd_day_to_hebrew,
- * bd_stretch and bd_fasts tell. A refused call alters nothing, so that the record goes on telling of the day that it
- * stood on: look at the refusal. Look at `none` before the three numbers above it: on the last four days of the range
- * no stretch is left, and they are 0, as days left are on the first day of a stretch. So look at `no_fast` before the
- * two above it, which are 0 on the last fifty days, after the last fast: days left are 0 on a fast too.
+ * After any such calls on a new record it is either still new or tells of its day and wing what bd_day_to_hebrew and
+ * bd_stretch tell, and the next of the days that bd_fasts lists. A new record tells nothing, whatever its flags are. A
+ * refused call alters nothing, so that the record goes on telling of the day that it stood on: look at the refusal. Look
+ * at `none` before the three numbers above it: on the last four days of the range no stretch is left, and they are 0,
+ * as days left are on the first day of a stretch. Likewise look at `no_fast` before the two above it: on the last fifty
+ * days, after the last fast, they are 0, as `fast_left` is on a fast.
  *
  * The numbers are the panel's to read and these calls' to write. A record that was changed by hand, or kept where it
  * may be spoilt, is safe and each call ends, but it may be moved to something that is not so: set it again.
@@ -390,7 +394,7 @@ typedef struct bd_record {
     int64_t days_left; /* -2..6, and 0 or less on a day of the stretch */
     uint64_t none; /* 1: no stretch is left, and the three above are 0; else 0 */
     uint64_t remaining; /* days of the year after the day: 0 on 29 Elul */
-    uint64_t fast_month; /* month code of the next fast, on the day or later */
+    uint64_t fast_month; /* month code of the next fast, on the day or later; Adar's is of the year above */
     uint64_t fast_left; /* days left until it: 0 on the fast, and never below */
     uint64_t no_fast; /* 1: no fast is left in range, and the two above are 0; else 0 */
 } bd_record;
@@ -399,9 +403,9 @@ typedef struct bd_record {
 uint64_t bd_record_set(bd_record *record, uint64_t wing, uint64_t day);
 
 /*
- * Moves a record to the next day, for less than a third of what setting it takes. Refusal, told as the number alone:
- * 4 on the last day of the range, or if the record's day is outside it, as a new one's is. (15 if its day is in range
- * and its wing neither 1 nor 2, as no record's is that was set.)
+ * Moves a record to the next day, on average for less than a third of what setting it takes. Refusal, told as the
+ * number alone: 4 on the last day of the range, or if the record's day is outside it, as a new one's is. (15 if its day
+ * is in range and its wing neither 1 nor 2, as no record's is that was set.)
  */
 uint64_t bd_record_next(bd_record *record);
 

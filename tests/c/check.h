@@ -16,6 +16,9 @@
 /* Numbers that are no wing: those beside the good ones, some whose low half is a good number, and the largest. */
 extern const uint64_t BAD_WINGS[5];
 
+/* Days outside the range and numbers that are no year, chosen so too. */
+extern const uint64_t BAD_DAYS[5], BAD_YEARS[4];
+
 void begin(const char *group);
 void end(void);
 /* Names what the next checks ask, as `bd_molad(5762, 1)`. */

@@ -48,7 +48,7 @@ static const row ROWS[] = {
     {4000075, 4, 6239, 8, 11, 6239, 9, 25},
 };
 
-static const uint64_t BAD_DAYS[] = {0, 1, 347997, 4000076, UINT64_C(1) << 32, (UINT64_C(1) << 32) + 2452171, UINT64_MAX};
+static const uint64_t OUTSIDE[] = {0, 1, 347997, 4000076, UINT64_C(1) << 32, (UINT64_C(1) << 32) + 2452171, UINT64_MAX};
 
 typedef struct {
     int64_t year;
@@ -123,10 +123,10 @@ void civil_dates(void)
         julian(r->julian_year, r->julian_month, r->julian_day, 0, r->day);
         gregorian(r->gregorian_year, r->gregorian_month, r->gregorian_day, 0, r->day);
     }
-    for (size_t i = 0; i < COUNT(BAD_DAYS); ++i) {
-        weekday(BAD_DAYS[i], BD_DAY_OUT_OF_RANGE, 0);
-        date("bd_day_to_julian", bd_day_to_julian(BAD_DAYS[i]), BAD_DAYS[i], BD_DAY_OUT_OF_RANGE, 0, 0, 0);
-        date("bd_day_to_gregorian", bd_day_to_gregorian(BAD_DAYS[i]), BAD_DAYS[i], BD_DAY_OUT_OF_RANGE, 0, 0, 0);
+    for (size_t i = 0; i < COUNT(OUTSIDE); ++i) {
+        weekday(OUTSIDE[i], BD_DAY_OUT_OF_RANGE, 0);
+        date("bd_day_to_julian", bd_day_to_julian(OUTSIDE[i]), OUTSIDE[i], BD_DAY_OUT_OF_RANGE, 0, 0, 0);
+        date("bd_day_to_gregorian", bd_day_to_gregorian(OUTSIDE[i]), OUTSIDE[i], BD_DAY_OUT_OF_RANGE, 0, 0, 0);
     }
     for (const bad_date *b = BAD_DATES; b < BAD_DATES + COUNT(BAD_DATES); ++b) {
         julian(b->year, b->month, b->day, b->julian, 0);

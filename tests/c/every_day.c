@@ -1,8 +1,8 @@
 /*
  * Every day of the range against a walk of this file's own: three calendars turned over day by day, a weekday counted
  * round the seven, and each wing's runs of rest days as they come. The dates and stretches of a year are held against
- * those of the first year of its kind too. The fasts are noted as they come, each by its date and weekday. A record of each
- * wing is moved on from the first day to the last, and from each day back to the one before.
+ * those of the first year of its kind too; the fasts are noted as they come. A record of each wing is moved on from the first
+ * day to the last, and from each day back to the one before.
  */
 #include <string.h>
 
@@ -94,64 +94,6 @@ static void note(uint64_t wing, uint64_t day, const hebrew *h, int keeps)
     for (size_t i = 0; i < count[wing]; ++i) same("entry", out[i], list[wing][i]);
     wanted(bd_rest_days(wing, h->year, NULL, 0), count[wing]);
     count[wing] = 0;
-}
-
-static uint32_t fasts_at[LAST - FIRST + 1]; /* the day of the next fast, on the day or later; 0 where there is none */
-static unsigned char fast_months[LAST - FIRST + 1]; /* of a day that is a fast, its month code */
-
-/* Each fast's month code and day, and the day and the weekday of its month on which it is kept instead of a Saturday. */
-static const unsigned char FASTS[BD_FASTS_ROOM][4] = {
-    {1, 3, 4, BD_SUNDAY}, {4, 10, 0, 0}, {7, 13, 11, BD_THURSDAY}, {11, 17, 18, BD_SUNDAY}, {12, 9, 10, BD_SUNDAY},
-};
-
-static int is_fast(const hebrew *h, uint64_t weekday)
-{
-    for (size_t i = 0; i < COUNT(FASTS); ++i) {
-        if (FASTS[i][0] != h->month) continue;
-        if (h->day == FASTS[i][1]) return weekday != BD_SATURDAY;
-        return h->day == FASTS[i][2] && weekday == FASTS[i][3];
-    }
-    return 0;
-}
-
-/* Notes the fasts of a year as they come, and holds the year's list against them on its last day. */
-static void note_fast(uint64_t day, const hebrew *h, uint64_t weekday)
-{
-    static uint64_t list[BD_FASTS_ROOM + 1], count;
-    uint64_t out[BD_FASTS_ROOM];
-    if (is_fast(h, weekday)) {
-        same("fasts of a year, beyond five", count < BD_FASTS_ROOM, 1);
-        fast_months[day - FIRST] = (unsigned char)h->month;
-        list[count++] = day;
-    }
-    if (h->month != BD_ELUL || h->day != 29) return;
-    asking("bd_fasts(%" PRIu64 ", out, %zu)", h->year, COUNT(out));
-    bd_list_answer got = bd_fasts(h->year, out, COUNT(out));
-    same("refusal", got.refusal, 0), same("count", got.count, count), same("fasts of the year", count, BD_FASTS_ROOM);
-    for (size_t i = 0; i < count; ++i) same("entry", out[i], list[i]);
-    wanted(bd_fasts(h->year, NULL, 0), count);
-    count = 0;
-}
-
-/* From the last day back, each day's next fast. */
-static void find_fasts(void)
-{
-    uint32_t next = 0;
-    for (uint64_t day = LAST + 1; day-- > FIRST;) {
-        if (fast_months[day - FIRST] != 0) next = (uint32_t)day;
-        fasts_at[day - FIRST] = next;
-    }
-    asking("the last fast of the range");
-    same("day", fasts_at[LAST - 50 - FIRST], LAST - 50), same("the next day's", fasts_at[LAST - 49 - FIRST], 0);
-}
-
-/* A record tells the next fast, or none. */
-static void record_fast(const bd_record *r)
-{
-    uint64_t next = fasts_at[r->day - FIRST];
-    same("month of the record's fast", r->fast_month, next == 0 ? 0 : fast_months[next - FIRST]);
-    same("days left until the record's fast", r->fast_left, next == 0 ? 0 : next - r->day);
-    same("flag of the record's fast", r->no_fast, next == 0);
 }
 
 static void civil_day(uint64_t day, const civil *c)
@@ -305,7 +247,7 @@ void every_day(void)
         civil_day(day, &julian), civil_day(day, &gregorian);
         hebrew_day(day, &h);
         date_of_kind(&h, weekday);
-        note_fast(day, &h, weekday);
+        note_fast(day, h.year, h.month, h.day, weekday);
         uint64_t from = kept_from(&h);
         for (uint64_t wing = 1; wing <= WINGS; ++wing) {
             rests[wing][day - FIRST] = weekday == BD_SATURDAY || from <= wing;

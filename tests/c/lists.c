@@ -3,11 +3,18 @@
 
 #include "lists.h"
 
-const uint64_t BAD_YEARS[] = {0, 10000, (UINT64_C(1) << 32) + 5762, UINT64_MAX};
-
 enum { AROUND = 4, ROOM = 200 };
 
 static uint64_t room[AROUND + ROOM + AROUND];
+
+/* The question as the call has it: that of a list without wings names none. */
+static void ask(const lister *list, uint64_t wing, uint64_t year, const char *out, size_t length)
+{
+    if (list->wingless)
+        asking("%s(%" PRIu64 ", %s, %zu)", list->name, year, out, length);
+    else
+        asking("%s(%" PRIu64 ", %" PRIu64 ", %s, %zu)", list->name, wing, year, out, length);
+}
 
 /* Lends `length` entries: the answer is as wanted, the list stands at their start, and every other word is as it was. */
 static void lend(const lister *list, uint64_t wing, uint64_t year, size_t length, uint64_t refusal, uint64_t count,
@@ -15,7 +22,7 @@ static void lend(const lister *list, uint64_t wing, uint64_t year, size_t length
 {
     for (size_t i = 0; i < COUNT(room); ++i) room[i] = GUARD + i;
     bd_list_answer got = list->call(wing, year, room + AROUND, length);
-    asking("%s(%" PRIu64 ", %" PRIu64 ", out, %zu)", list->name, wing, year, length);
+    ask(list, wing, year, "out", length);
     same("refusal", got.refusal, refusal);
     same("count", got.count, count);
     for (size_t i = 0; i < COUNT(room); ++i) {
@@ -28,7 +35,7 @@ static void lend(const lister *list, uint64_t wing, uint64_t year, size_t length
 static void no_buffer(const lister *list, uint64_t wing, uint64_t year, uint64_t refusal, uint64_t count)
 {
     bd_list_answer got = list->call(wing, year, NULL, 0);
-    asking("%s(%" PRIu64 ", %" PRIu64 ", NULL, 0)", list->name, wing, year);
+    ask(list, wing, year, "NULL", 0);
     same("refusal", got.refusal, refusal), same("count", got.count, count);
 }
 

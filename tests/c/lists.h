@@ -7,10 +7,8 @@
 typedef struct {
     const char *name;
     bd_list_answer (*call)(uint64_t wing, uint64_t year, uint64_t *out, size_t length);
+    int wingless; /* the exported call takes no wing */
 } lister;
-
-/* Numbers that are no year: those beside the good ones, one whose low half is a good number, and the largest. */
-extern const uint64_t BAD_YEARS[4];
 
 /* A list into every length of buffer from none to more than enough, and without a buffer. */
 void every_length(const lister *list, uint64_t wing, uint64_t year, uint64_t count, const uint64_t *want, size_t entries);

@@ -7,6 +7,8 @@
 #include "check.h"
 
 const uint64_t BAD_WINGS[] = {0, 3, (UINT64_C(1) << 32) + 1, (UINT64_C(1) << 32) + 2, UINT64_MAX};
+const uint64_t BAD_DAYS[] = {0, BD_FIRST_DAY - 1, BD_LAST_DAY + 1, (UINT64_C(1) << 32) + 2456928, UINT64_MAX};
+const uint64_t BAD_YEARS[] = {0, 10000, (UINT64_C(1) << 32) + 5762, UINT64_MAX};
 
 static const char *group_name;
 static char question[120];

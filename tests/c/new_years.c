@@ -79,7 +79,7 @@ static const year_row NONE = {0, 0, 0, 0, 0, 0, 0, 0, 0, 0};
 static const kind_row NO_KIND = {0, 0, 0, 0};
 static const molad_row NO_MOLAD = {0, 0, 0, 0, 0, 0, 0, 0, 0, 0};
 
-static const uint64_t BAD_YEARS[] = {0, 10001, UINT64_C(1) << 32, (UINT64_C(1) << 32) + 5762, UINT64_MAX};
+static const uint64_t NO_YEARS[] = {0, 10001, UINT64_C(1) << 32, (UINT64_C(1) << 32) + 5762, UINT64_MAX};
 
 static void molad(uint64_t year, uint64_t month, uint64_t refusal, const molad_row *want)
 {
@@ -153,12 +153,12 @@ void new_years(void)
     whole_year(10000, BD_BAD_YEAR, &NONE);
     kind(10000, BD_BAD_YEAR, &NO_KIND);
     molad(10000, 1, BD_BAD_YEAR, &NO_MOLAD);
-    for (size_t i = 0; i < COUNT(BAD_YEARS); ++i) {
-        both_routes(BAD_YEARS[i], BD_BAD_YEAR, &NONE);
-        whole_year(BAD_YEARS[i], BD_BAD_YEAR, &NONE);
-        kind(BAD_YEARS[i], BD_BAD_YEAR, &NO_KIND);
-        molad(BAD_YEARS[i], 1, BD_BAD_YEAR, &NO_MOLAD);
-        molad(BAD_YEARS[i], 14, BD_BAD_YEAR, &NO_MOLAD);
+    for (size_t i = 0; i < COUNT(NO_YEARS); ++i) {
+        both_routes(NO_YEARS[i], BD_BAD_YEAR, &NONE);
+        whole_year(NO_YEARS[i], BD_BAD_YEAR, &NONE);
+        kind(NO_YEARS[i], BD_BAD_YEAR, &NO_KIND);
+        molad(NO_YEARS[i], 1, BD_BAD_YEAR, &NO_MOLAD);
+        molad(NO_YEARS[i], 14, BD_BAD_YEAR, &NO_MOLAD);
     }
     molad(5762, 0, BD_BAD_MONTH, &NO_MOLAD);
     molad(5762, BD_ADAR_I, BD_BAD_MONTH, &NO_MOLAD);

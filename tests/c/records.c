@@ -118,7 +118,8 @@ static void walked(uint64_t wing, uint64_t from, uint64_t to)
     }
 }
 
-/* The first year of each kind, with the days before it and after it; the first days of the range and the last. */
+/* The first year of each kind, with the days before it and after it; the first days of the range and the last, from before
+   the last fast on. */
 static void years(uint64_t wing)
 {
     for (uint64_t kind = 1; kind <= KINDS; ++kind) {
@@ -127,11 +128,8 @@ static void years(uint64_t wing)
         walked(wing, year > 1 ? from - 10 : from, to);
     }
     walked(wing, BD_FIRST_DAY, BD_FIRST_DAY + 9);
-    walked(wing, BD_LAST_DAY - 59, BD_LAST_DAY);
+    walked(wing, BD_LAST_DAY - FASTLESS - 9, BD_LAST_DAY);
 }
-
-/* Days outside the range, some of whose low half is a good number. */
-static const uint64_t BAD_DAYS[] = {0, BD_FIRST_DAY - 1, BD_LAST_DAY + 1, (UINT64_C(1) << 32) + 2456928, UINT64_MAX};
 
 /* Nothing is altered, whatever else the record holds. */
 static void refused(bd_record from)

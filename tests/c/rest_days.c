@@ -68,9 +68,6 @@ static const uint64_t GUEST_STRETCHES_5775[] = {
     2457264, 1, 2457271, 1, 2457278, 1,
 };
 
-/* Days that are refused: the numbers beside the good ones, one whose low half is a good number, and the largest. */
-static const uint64_t BAD_DAYS[] = {0, BD_FIRST_DAY - 1, BD_LAST_DAY + 1, (UINT64_C(1) << 32) + 2456928, UINT64_MAX};
-
 static void stretch(uint64_t wing, uint64_t day, uint64_t refusal, const stretch_row *want)
 {
     bd_stretch_answer got = bd_stretch(wing, day);
@@ -88,7 +85,7 @@ static void stretch_rows(uint64_t wing, const stretch_row *rows, size_t count)
     for (size_t i = 0; i < COUNT(BAD_DAYS); ++i) stretch(wing, BAD_DAYS[i], BD_DAY_OUT_OF_RANGE, &NO_STRETCH);
 }
 
-static const lister REST_DAYS = {"bd_rest_days", bd_rest_days}, STRETCHES = {"bd_stretches", bd_stretches};
+static const lister REST_DAYS = {"bd_rest_days", bd_rest_days, 0}, STRETCHES = {"bd_stretches", bd_stretches, 0};
 
 static void bad_years(uint64_t wing, uint64_t refusal)
 {

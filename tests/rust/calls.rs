@@ -346,8 +346,9 @@ fn fasts(years: &[Begins]) -> Vec<Vec<(u64, u64)>> {
         let got = unsafe { bd_fasts(year, out.as_mut_ptr(), out.len()) };
         assert_eq!((got.refusal, got.number), (0, 5), "fasts of {year}");
         assert!(out.iter().copied().eq(want.iter().map(|fast| fast.0).chain([u64::MAX; 2])), "fasts of {year}: {out:?}");
-        let got = unsafe { bd_fasts(year, out.as_mut_ptr(), 4) };
-        assert_eq!((got.refusal, got.number, out[0]), (10, 5, want[0].0), "fasts of {year} into four entries");
+        let mut four = [u64::MAX; 4];
+        let got = unsafe { bd_fasts(year, four.as_mut_ptr(), four.len()) };
+        assert_eq!((got.refusal, got.number, four), (10, 5, [u64::MAX; 4]), "fasts of {year} into four entries");
         all.push(want);
     }
     for year in [0, 10_000, 1 << 32 | 5762, u64::MAX] {

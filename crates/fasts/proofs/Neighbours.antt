@@ -37,7 +37,7 @@ next-of j i some =
 pub still-next : (j code n : ℕ) → NextFast j code n → j < n → NextFast (j + 1) code n
 still-next j code n f l = record { a-fast = f .a-fast; not-past = omega arith; nearest = λ c m g p. f .nearest c m g (omega arith) }
 
--- A day back it is the next already, unless that day is a fast itself.
+-- A day back it is the next already, unless on that day's date a fast may be kept.
 pub already-next : (j code n : ℕ) → NextFast (j + 1) code n → mayFast (dateOf j .month) (dateOf j .day) ≡ false → NextFast j code n
 already-next j code n f free =
     record {
