@@ -8,6 +8,7 @@ unfolding weekdayAnswer
 words-fixed =
     record {
       range = λ j. (λ m. m, λ m. m);
+      weekdays = λ j. refl;
       first-day = (refl, refl);
       last-day = (refl, refl);
       week = (refl, refl, refl, refl, refl, refl, refl);

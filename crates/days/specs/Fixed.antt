@@ -2,12 +2,13 @@
 -- in and its neighbour out, and a week has its seven days.
 use mathlib.Core.Path.{_≡_}
 use mathlib.Core.Logic.{_↔_}
-use Prim.Native.Nat.{ℕ, _≤_}
+use Prim.Native.Nat.{ℕ, _+_, _%_, _≤_}
 use Rattle.days.specs.Range.{InRange}
-use Rattle.days.specs.Weekday.{weekdayAnswer}
+use Rattle.days.specs.Weekday.{weekday, weekdayAnswer}
 
 pub record WordsFixed : Type 0 where
   pub range : (j : ℕ) → InRange j ↔ ((347998 ≤ j) × (j ≤ 4000075))
+  pub weekdays : (j : ℕ) → weekday j ≡ (j + 1) % 7 + 1
   pub first-day :
       (weekdayAnswer 347997 ≡ record { refusal = 4; weekday = 0 })
       × (weekdayAnswer 347998 ≡ record { refusal = 0; weekday = 2 })

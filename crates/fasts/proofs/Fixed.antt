@@ -11,8 +11,8 @@ use Rattle.newyear.proofs.Quick.{quick, newYear-quick}
 use Rattle.newyear.proofs.YearOf.{year-is}
 use Rattle.hebrew.specs.Months.{monthLength, daysBefore}
 use Rattle.hebrew.specs.Dates.{dayNumber}
-use Rattle.lists.specs.Lists.{listAnswer, listBuffer}
-use Rattle.fasts.specs.Fasts.{fastTable, keptOn, fastDay, fastDays}
+use Rattle.lists.specs.Lists.{listAnswer, listBuffer, daysOf}
+use Rattle.fasts.specs.Fasts.{fastTable, keptOn, fastDay}
 use Rattle.fasts.specs.Ahead.{noFast, aheadOf, aheadIn, fastAhead}
 use Rattle.fasts.specs.Fixed.{WordsFixed}
 use Rattle.fasts.specs.declared.Ahead.{Ahead}
@@ -39,7 +39,7 @@ module _ (h n later : ℕ) (y : InYears h) (e : newYear h ≡ n) (f : newYear (h
       let i = year-is j h (record { low = y .0; high = y .1; from = omega arith; before = omega arith }) in rw (i, day-by, tishri-falls (h + 1), f)
 
 pub words-fixed : WordsFixed
-unfolding listAnswer listBuffer fastDays fastDay keptOn dayNumber daysBefore monthLength yearLength overwrite quick aheadBy dayBy aheadIn
+unfolding listAnswer listBuffer daysOf fastDay keptOn dayNumber daysBefore monthLength yearLength overwrite quick aheadBy dayBy aheadIn
 words-fixed =
     let n1 : newYear 1 ≡ 347998 = newYear-quick 1 (omega arith) in
     let n2 : newYear (1 + 1) ≡ 348353 = newYear-quick 2 (omega arith) in

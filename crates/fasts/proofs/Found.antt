@@ -1,4 +1,4 @@
--- The fast that is found ahead of a day is the next one; and there is one exactly up to the fiftieth day from the range's end.
+-- The fast that is found ahead of a day is the next one; and there is one exactly up to the day fifty days before the range's end.
 use mathlib.Core.Path.{_≡_, refl, ap}
 use mathlib.Core.Bool.{Bool, true, false, cond, or-true}
 use mathlib.Core.List.{List, [], _∷_}
@@ -14,20 +14,20 @@ use Rattle.molad.specs.Years.{lastYear, InYears}
 use Rattle.newyear.specs.NewYear.{newYear, yearLength, yearOf, InYear}
 use Rattle.newyear.proofs.Quick.{quick, newYear-quick}
 use Rattle.newyear.proofs.Rise.{rise-le}
-use Rattle.newyear.proofs.YearOf.{held}
+use Rattle.newyear.proofs.YearOf.{held, last}
 use Rattle.hebrew.specs.Months.{monthLength, daysBefore}
 use Rattle.hebrew.specs.Dates.{dayNumber}
 use Rattle.hebrew.specs.Rows.{row}
-use Rattle.lists.specs.Lists.{DaysRise}
+use Rattle.lists.specs.Lists.{daysOf, DaysRise}
 use Rattle.fasts.specs.Fasts.{fastTable, keptOn, fastDay, fastDays}
-use Rattle.fasts.specs.Ahead.{FastOn, NextFast, noFast, aheadOf, aheadIn, fastAhead}
+use Rattle.fasts.specs.Ahead.{FastOn, noFast, aheadOf, aheadIn, fastAhead}
 use Rattle.fasts.specs.Promises.{FastTold}
 use Rattle.fasts.specs.declared.Ahead.{Ahead}
 use Rattle.fasts.proofs.Kept.{of-five, fast-in-year, fasts-rise}
 
 -- The five rise.
 pub five-rise : (h : ℕ) → InYears h → DaysRise (fastDays fastTable h)
-unfolding fastDays
+unfolding daysOf
 five-rise h y =
     let up = fasts-rise h y in (
       up (row 1 3) (row 4 10) refl refl (omega arith),
@@ -36,13 +36,13 @@ five-rise h y =
 
 -- The first of fasts that rise comes before the others.
 first-before : (h r s : ℕ) (table : List ℕ) → DaysRise (fastDays (r ∷ table) h) → elem s table ≡ true → fastDay h r < fastDay h s
-unfolding fastDays
+unfolding daysOf
 first-before h r s [] up e = absurd (let z : _≡_ {A = ℕ} 0 1 = cc in omega arith)
 first-before h r s (t ∷ table) up e =
     by-cases (ℕ-discrete s t) (λ q. rw q (up .0)) (λ q. omega (arith, up .0, first-before h t s table (up .1) (rw (ne-eqb s t q) at e)))
 
 others-rise : (h r : ℕ) (table : List ℕ) → DaysRise (fastDays (r ∷ table) h) → DaysRise (fastDays table h)
-unfolding fastDays
+unfolding daysOf
 others-rise h r [] up = tt
 others-rise h r (s ∷ table) up = up .1
 
@@ -75,7 +75,13 @@ gone-through j h P (r ∷ table) up found past =
 pub in-its-year : (code m : ℕ) (f : FastOn code m) → InYear m (f .year)
 in-its-year code m f = rw (f .kept) at (fast-in-year (f .year) (f .of-years) (f .fast) (f .in-table))
 
--- A fast is the next for day j if those of earlier years are past, and it is the first of its year that is not.
+-- Day n is the next fast for day j, the one of this month code.
+pub record NextFast (j code n : ℕ) : Type 0 where
+  pub a-fast : FastOn code n
+  pub not-past : j ≤ n
+  pub nearest : (other m : ℕ) → FastOn other m → j ≤ m → n ≤ m
+
+-- It is if those of earlier years are past, and it is the first of its year that is not.
 next-is :
     (j g r : ℕ) → InYears g → elem r fastTable ≡ true → j ≤ fastDay g r →
     ((code m : ℕ) (f : FastOn code m) → f .year < g → m < j) →
@@ -128,13 +134,10 @@ module _ (j : ℕ) (i : InRange j) where
         (λ q. earlier code m f (omega arith))
 
     tishri-first : (g : ℕ) → InYears g → (s : ℕ) → elem s fastTable ≡ true → fastDay g (row 1 3) ≤ fastDay g s
-    tishri-first g y =
-        let up = fasts-rise g y (row 1 3) in
-        of-five (λ (s : ℕ). fastDay g (row 1 3) ≤ fastDay g s) (omega arith)
-        (omega (arith, up (row 4 10) refl refl (omega arith)))
-        (omega (arith, up (row 7 13) refl refl (omega arith)))
-        (omega (arith, up (row 11 17) refl refl (omega arith)))
-        (omega (arith, up (row 12 9) refl refl (omega arith)))
+    tishri-first g y s e =
+        by-cases (ℕ-discrete s (row 1 3))
+        (λ q. rw q (omega arith))
+        (λ q. omega (arith, first-before g (row 1 3) s (row 4 10 ∷ row 7 13 ∷ row 11 17 ∷ row 12 9 ∷ []) (five-rise g y) (rw (ne-eqb s (row 1 3) q) at e)))
 
     next-year : (b : Bool) → ltb h lastYear ≡ b → Found j (cond b (aheadOf j 1 (fastDay (h + 1) (row 1 3))) noFast)
     unfolding Found
@@ -159,13 +162,9 @@ module _ where
   unfolding quick
   n9999 = newYear-quick 9999 (omega arith)
 
-  n10000 : newYear (9999 + 1) ≡ 4000076
-  unfolding quick
-  n10000 = newYear-quick 10000 (omega arith)
-
   last-day : fastDay 9999 (row 12 9) ≡ lastDay - 50
   unfolding fastDay keptOn dayNumber daysBefore monthLength yearLength
-  last-day = rw (n10000, n9999)
+  last-day = rw (last, n9999)
 
   before-last : (r : ℕ) → elem r fastTable ≡ true → r / 100 < 12 → fastDay 9999 r ≤ lastDay - 50
   before-last r e l = omega (arith, last-day, fasts-rise 9999 (omega arith, omega arith) r (row 12 9) e refl l)
@@ -193,7 +192,7 @@ pub told : (j : ℕ) → InRange j → FastTold j (fastAhead j)
 unfolding Found
 told j i =
     record {
-      ahead = λ l. ⊎-elim (λ n. n) (λ none. absurd (omega (arith, none .1 12 (lastDay - 50) last-fast))) (found j i);
+      ahead = λ l. ⊎-elim (λ n. (n .0, (n .1 .a-fast, n .1 .nearest))) (λ none. absurd (omega (arith, none .1 12 (lastDay - 50) last-fast))) (found j i);
       last-fifty =
           λ l.
           ⊎-elim

@@ -1,14 +1,13 @@
 -- Where the fasts of a year are kept: in their months, on dates that every year has, never on a Saturday, and rising.
 use mathlib.Core.Path.{_≡_, refl, sym, subst, _∙_}
 use mathlib.Core.Bool.{true, not, false≢true}
-use mathlib.Core.List.{List, [], _∷_}
+use mathlib.Core.List.{[], _∷_}
 use mathlib.Core.Logic.{by-cases}
-use Prim.Native.Nat.{ℕ, zero, suc, _+_, _-_, _/_, _%_, _<_}
+use Prim.Native.Nat.{ℕ, _+_, _-_, _/_, _%_, _<_}
 use native.Mathlib.Omega.{arith}
 use native.Mathlib.Decide.{ℕ-discrete}
 use borrow.Author.Tests.{eq-eqb, ne-eqb, not-true}
 use lib.Dec.{eqb}
-use lib.ListN.{length, getD}
 use Rattle.laws.specs.Runs.{eachOf, elem}
 use Rattle.laws.proofs.Tests.{of}
 use Rattle.days.specs.Weekday.{weekday}
@@ -23,7 +22,7 @@ use Rattle.hebrew.specs.Weekdays.{weekdayIn}
 use Rattle.hebrew.proofs.Dates.{date-back, in-its-year, dates-rise-by-month}
 use Rattle.hebrew.proofs.Rows.{good-row, row-date}
 use Rattle.hebrew.proofs.Weekdays.{weekday-by-kind}
-use Rattle.fasts.specs.Fasts.{fastTable, keptOn, fastDay, fastDays}
+use Rattle.fasts.specs.Fasts.{fastTable, keptOn, fastDay}
 use Rattle.fasts.specs.Ahead.{fastDates, mayFast}
 
 -- What holds of the five rows holds of each row of the table.
@@ -157,15 +156,3 @@ module _ (h : ℕ) (y : InYears h) where
       let b = kept-date s f in
       rw (a .its-day, b .its-day) at
       (dates-rise-by-month h _ _ _ _ (good r e) (good s f) (rw (a .same-month, b .same-month) p))
-
--- The list of a table's fasts.
-pub days-at : (table : List ℕ) (h i : ℕ) → i < length table → getD (fastDays table h) i 0 ≡ fastDay h (getD table i 0)
-unfolding fastDays
-days-at [] h i p = absurd (omega arith)
-days-at (r ∷ table) h zero p = refl
-days-at (r ∷ table) h (suc i) p = days-at table h i (omega arith)
-
-pub days-length : (table : List ℕ) (h : ℕ) → length (fastDays table h) ≡ length table
-unfolding fastDays
-days-length [] h = refl
-days-length (r ∷ table) h = rw (days-length table h)

@@ -7,12 +7,12 @@ use native.Mathlib.Omega.{arith}
 use native.Mathlib.Decide.{ℕ-discrete, decLt}
 use Rattle.days.specs.Range.{lastDay, InRange}
 use Rattle.hebrew.specs.Dates.{dateOf}
-use Rattle.fasts.specs.Ahead.{FastOn, NextFast, fastAhead, mayFast}
+use Rattle.fasts.specs.Ahead.{FastOn, fastAhead, mayFast}
 use Rattle.fasts.proofs.Kept.{fast-month, fast-may}
-use Rattle.fasts.proofs.Found.{none-later, told}
+use Rattle.fasts.proofs.Found.{NextFast, none-later, told}
 
 -- The month of a fast is the month of its date; so a day is the fast of one month at most.
-of-its-month : (code n : ℕ) → FastOn code n → dateOf n .month ≡ code
+pub of-its-month : (code n : ℕ) → FastOn code n → dateOf n .month ≡ code
 of-its-month code n f = rw (f .kept) at (fast-month (f .year) (f .of-years) (f .fast) (f .in-table)) ∙ f .of-month
 
 -- What is ahead of a day, where there is a next fast.
@@ -21,9 +21,9 @@ ahead-is j code n i f =
     let t = told j i .ahead (omega (arith, f .not-past, none-later code n (f .a-fast))) in
     let m = fastAhead j .month in
     let k = j + fastAhead j .left in
-    let same : k ≡ n = omega (arith, t .1 .nearest code n (f .a-fast) (f .not-past), f .nearest m k (t .1 .a-fast) (t .1 .not-past)) in
+    let same : k ≡ n = omega (arith, t .1 .1 code n (f .a-fast) (f .not-past), f .nearest m k (t .1 .0) (omega arith)) in
     let left : fastAhead j .left ≡ n - j = omega arith in
-    let month : m ≡ code = sym (of-its-month m k (t .1 .a-fast)) ∙ ap (λ (d : ℕ). dateOf d .month) same ∙ of-its-month code n (f .a-fast) in
+    let month : m ≡ code = sym (of-its-month m k (t .1 .0)) ∙ ap (λ (d : ℕ). dateOf d .month) same ∙ of-its-month code n (f .a-fast) in
     λ x. record { month = month x; left = left x; none = t .0 x }
 
 -- A month tells of a next fast.
@@ -31,7 +31,8 @@ pub next-of : (j : ℕ) → InRange j → 0 < fastAhead j .month → NextFast j 
 next-of j i some =
     by-cases (decLt (lastDay - 50) j)
     (λ l. absurd (omega (arith, told j i .last-fifty l .1 .0)))
-    (λ l. told j i .ahead (omega arith) .1)
+    (λ l.
+    let t = told j i .ahead (omega arith) .1 in record { a-fast = t .0; not-past = omega arith; nearest = t .1 })
 
 -- A day on it is still the next, unless it was that day's.
 pub still-next : (j code n : ℕ) → NextFast j code n → j < n → NextFast (j + 1) code n

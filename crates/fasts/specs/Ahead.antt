@@ -1,8 +1,8 @@
--- The next fast, on a day or later.
+-- The fast that a day has ahead: the next one, on the day or later.
 use mathlib.Core.Path.{_≡_}
 use mathlib.Core.Bool.{Bool, true, cond}
 use mathlib.Core.List.{List, [], _∷_}
-use Prim.Native.Nat.{ℕ, _+_, _-_, _/_, _≤_}
+use Prim.Native.Nat.{ℕ, _+_, _-_, _/_}
 use lib.Dec.{eqb, leb, ltb}
 use Rattle.laws.specs.Runs.{elem}
 use Rattle.molad.specs.Years.{lastYear, InYears}
@@ -20,14 +20,7 @@ pub record FastOn (code n : ℕ) : Type 0 where
   pub of-month : fast / 100 ≡ code
   pub kept : fastDay year fast ≡ n
 
--- It is the next one, on day j or later.
-pub record NextFast (j code n : ℕ) : Type 0 where
-  pub a-fast : FastOn code n
-  pub not-past : j ≤ n
-  pub nearest : (other m : ℕ) → FastOn other m → j ≤ m → n ≤ m
-
--- It is found by going through the fasts of the day's year, and then to the next year's first, which is Tishri's; that what is
--- found is the next fast is proved.
+-- No fast is left: zeros, and the flag.
 abbrev pub noFast : Ahead
 noFast = record { month = 0; left = 0; none = 1 }
 
@@ -40,7 +33,8 @@ unfoldable pub aheadIn : (ℕ → ℕ) → ℕ → List ℕ → Ahead
 aheadIn day j [] = noFast
 aheadIn day j (r ∷ table) = cond (leb j (day r)) (aheadOf j (r / 100) (day r)) (aheadIn day j table)
 
--- None is left after the last year's.
+-- The fast ahead of day j is found by going through the fasts of the day's year, and then to the next year's first, which is
+-- Tishri's; none is left after the last year's. That what is found is the next fast is proved.
 unfoldable pub fastAhead : ℕ → Ahead
 fastAhead j =
     let h = yearOf j in

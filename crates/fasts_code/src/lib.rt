@@ -22,7 +22,7 @@ const FASTS: usize = 5;
 // Tishri 3, Tevet 10, Adar 13, Tammuz 17, Av 9. A row is 100 × month code + day.
 const FAST_TABLE: [u64; FASTS] = [1_03, 4_10, 7_13, 11_17, 12_09];
 
-// For numbers near the range: the day on which the fast of a month is kept that falls on this day.
+// For numbers near the range: the day on which a month's fast is kept whose date is this day.
 fn kept_on(month: u64, day: u64) -> u64
     requires { ⌜ (2 ≤ day) × (day ≤ 5000000) ⌝ }
     ensures { λ r. ⌜ r ≡ keptOn month day ⌝ }
@@ -30,7 +30,7 @@ fn kept_on(month: u64, day: u64) -> u64
     if days::weekday_of(day) != 7 {
         return day;
     }
-    if (month == 1) | ((month == 11) | (month == 12)) {
+    if (month == 1) | (month == 11) | (month == 12) {
         return day + 1;
     }
     if month == 7 {
@@ -62,7 +62,7 @@ fn write_days(table: &[u64], span: Span, out: &mut [u64])
 }
 
 // The days of the year's five fasts, rising. Refusal 1 for a year outside 1..9999; 10 for a buffer of fewer than five
-// entries, which it leaves as it was.
+// entries. A refused call leaves the buffer as it was.
 pub fn fasts(year: u64, out: &mut [u64]) -> ListAnswer
     ensures { λ r. ⌜ (r ≡ fastsAnswer year (now (out .entry))) × (now (out .exit) ≡ fastsBuffer year (now (out .entry))) ⌝ }
 {
@@ -75,14 +75,14 @@ pub fn fasts(year: u64, out: &mut [u64]) -> ListAnswer
     if out.len() < FASTS {
         return ListAnswer {
             refusal: 10,
-            count: 5,
+            count: FASTS as u64,
         };
     }
     let table = FAST_TABLE;
     write_days(&table, newyear_code::year_span(year), out);
     ListAnswer {
         refusal: 0,
-        count: 5,
+        count: FASTS as u64,
     }
 }
 
@@ -112,7 +112,7 @@ fn first_from(table: &[u64], day: u64, span: Span) -> Ahead
 }
 
 // A step, for a day in range and the span of its year: the fast ahead of it. After the year's last that is the next year's
-// first, Tishri's.
+// first, of 3 Tishri, two days after New Year.
 pub fn ahead_in(day: u64, span: Span) -> Ahead
     requires { ⌜ (InRange day) × (Spans (yearOf day) span) ⌝ }
     ensures { λ f. ⌜ f ≡ fastAhead day ⌝ }
@@ -129,7 +129,7 @@ pub fn ahead_in(day: u64, span: Span) -> Ahead
     }
 }
 
-// A step, for the days of the range.
+// A step, for the days of the range: the fast ahead of the day.
 pub fn ahead(day: u64) -> Ahead
     requires { ⌜ InRange day ⌝ }
     ensures { λ f. ⌜ f ≡ fastAhead day ⌝ }

@@ -38,6 +38,7 @@ words-fixed =
     let b5762 = begins 5762 2452171 (omega arith) refl in
     let l5762 = long 5762 354 (omega arith) refl in
     record {
+      rows = (refl, refl);
       common-years = (refl, refl, refl);
       leap-years = (refl, refl, refl);
       lengths = (refl, refl, rw l3);

@@ -4,6 +4,7 @@ use mathlib.Core.Path.{_≡_}
 use mathlib.Core.List.{List, [], _∷_}
 use Prim.Native.Nat.{ℕ}
 use Rattle.hebrew.specs.Months.{monthLength}
+use Rattle.hebrew.specs.Rows.{row, rowDate}
 use Rattle.hebrew.specs.Answers.{monthAnswer, hebrewDay, hebrewDate}
 
 -- The months from Tishri to Elul in a year of a length; code 6, Adar I, has no days in a common year.
@@ -25,6 +26,8 @@ abbrev pub DayRefused : ℕ → Type 0
 DayRefused j = hebrewDate j ≡ record { refusal = 4; year = 0; month = 0; day = 0; «new_year» = 0; length = 0; «day_of_year» = 0 }
 
 pub record WordsFixed : Type 0 where
+  -- 6 Sivan.
+  pub rows : (row 10 6 ≡ 1006) × (rowDate 5762 1006 ≡ record { year = 5762; month = 10; day = 6 })
   pub common-years :
       (months 353 ≡ 30 ∷ 29 ∷ 29 ∷ 29 ∷ 30 ∷ 0 ∷ 29 ∷ 30 ∷ 29 ∷ 30 ∷ 29 ∷ 30 ∷ 29 ∷ [])
       × (months 354 ≡ 30 ∷ 29 ∷ 30 ∷ 29 ∷ 30 ∷ 0 ∷ 29 ∷ 30 ∷ 29 ∷ 30 ∷ 29 ∷ 30 ∷ 29 ∷ [])

@@ -1,19 +1,22 @@
 -- What every list of a year promises, and what it makes of the lent numbers.
-use mathlib.Core.Path.{_≡_, refl}
-use mathlib.Core.Bool.{cond}
+use mathlib.Core.Path.{_≡_, refl, ap}
+use mathlib.Core.Bool.{true, cond, or-true, false≢true}
 use mathlib.Core.List.{List, [], _∷_}
-use Prim.Native.Nat.{ℕ, _≤_}
+use mathlib.Core.Logic.{by-cases}
+use Prim.Native.Nat.{ℕ, zero, suc, _≤_, _<_}
 use native.Mathlib.Omega.{arith}
-use borrow.Author.Tests.{ltb-true, ltb-false}
+use native.Mathlib.Decide.{ℕ-discrete}
+use borrow.Author.Tests.{eq-eqb, ne-eqb, ltb-true, ltb-false}
 use lib.Dec.{eqb, ltb}
-use lib.ListN.{length}
+use lib.ListN.{length, getD}
 use Rattle.laws.specs.Promise.{_else_, Promised}
 use Rattle.laws.specs.Buffer.{Lent}
+use Rattle.laws.specs.Runs.{elem}
 use Rattle.laws.proofs.One.{one-result}
 use Rattle.laws.proofs.Stores.{lent-done, lent-unless}
 use Rattle.laws.proofs.Promises.{Catches, ranged, asks, answered}
 use Rattle.molad.specs.Years.{lastYear, InYears, outOfYears}
-use Rattle.lists.specs.Lists.{noList, listAnswer, listBuffer}
+use Rattle.lists.specs.Lists.{noList, listAnswer, listBuffer, daysOf}
 use Rattle.lists.specs.declared.ListAnswer.{ListAnswer}
 
 -- A buffer that is too short is caught.
@@ -38,6 +41,26 @@ list-lent h buffer list count =
     unless (outOfYears h) (noList 1) _ list buffer _ (omega arith)
     (unless (ltb (length buffer) (length list)) (record { refusal = 10; count = length list }) (record { refusal = 0; count = count }) list buffer _ (omega arith)
     (lent-done 0 list buffer refl))
+
+-- The days of a table, one by one, and how many they are.
+pub days-at : (day : ℕ → ℕ) (table : List ℕ) (i : ℕ) → i < length table → getD (daysOf day table) i 0 ≡ day (getD table i 0)
+unfolding daysOf
+days-at day [] i p = absurd (omega arith)
+days-at day (r ∷ table) zero p = refl
+days-at day (r ∷ table) (suc i) p = days-at day table i (omega arith)
+
+pub days-length : (day : ℕ → ℕ) (table : List ℕ) → length (daysOf day table) ≡ length table
+unfolding daysOf
+days-length day [] = refl
+days-length day (r ∷ table) = rw (days-length day table)
+
+pub days-hold : (day : ℕ → ℕ) (table : List ℕ) (r : ℕ) → elem r table ≡ true → elem (day r) (daysOf day table) ≡ true
+unfolding daysOf
+days-hold day [] r e = absurd (false≢true e)
+days-hold day (s ∷ table) r e =
+    by-cases (ℕ-discrete r s)
+    (λ q. rw (eq-eqb (day r) (day s) (ap day q)))
+    (λ q. rw (days-hold day table r (rw (ne-eqb r s q) at e), or-true))
 
 pub no-list-one : (n : ℕ) (r s : ListAnswer) → r ≡ noList n → s ≡ noList n → r ≡ s
 no-list-one n = one-result (noList n)

@@ -23,6 +23,11 @@ listAnswer h buffer list count =
 unfoldable pub listBuffer : ℕ → List ℕ → List ℕ → List ℕ
 listBuffer h buffer list = cond (outOfYears h) buffer (cond (ltb (length buffer) (length list)) buffer (overwrite buffer list))
 
+-- The days of a table's rows, in the table's order; `day` tells the day of a row.
+unfoldable pub daysOf : (ℕ → ℕ) → List ℕ → List ℕ
+daysOf day [] = []
+daysOf day (r ∷ table) = day r ∷ daysOf day table
+
 -- Each day comes after the one before it.
 abbrev pub DaysRise : List ℕ → Type 0
 DaysRise [] = Unit {0}

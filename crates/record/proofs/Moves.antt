@@ -11,7 +11,8 @@ use Rattle.laws.proofs.Promises.{ranged, let-pass}
 use Rattle.days.specs.Range.{firstDay, lastDay, InRange}
 use Rattle.newyear.specs.NewYear.{newYear}
 use Rattle.hebrew.proofs.Neighbours.{date-on, date-before}
-use Rattle.fasts.specs.Ahead.{NextFast, fastAhead}
+use Rattle.fasts.specs.Ahead.{fastAhead}
+use Rattle.fasts.proofs.Found.{NextFast}
 use Rattle.fasts.proofs.Neighbours.{ahead-is, next-of, still-next, already-next}
 use Rattle.rest.specs.Table.{isRest, restDay}
 use Rattle.rest.specs.Wings.{IsWing, tableOf}

@@ -12,8 +12,8 @@ use Rattle.record.specs.declared.DayRecord.{DayRecord}
 use Rattle.record.specs.declared.Moved.{Moved}
 
 -- A record by its numbers, in their order.
-abbrev pub told : ℕ → ℕ → ℕ → ℕ → ℕ → ℕ → ℕ → ℤ → ℕ → ℕ → ℕ → ℕ → ℕ → DayRecord
-told j wing h code d first days left none remaining fast until fastless =
+abbrev pub numbered : ℕ → ℕ → ℕ → ℕ → ℕ → ℕ → ℕ → ℤ → ℕ → ℕ → ℕ → ℕ → ℕ → DayRecord
+numbered j wing h code d first days left none remaining fast until flag =
     record {
       day = j;
       wing = wing;
@@ -27,23 +27,23 @@ told j wing h code d first days left none remaining fast until fastless =
       remaining = remaining;
       «fast_month» = fast;
       «fast_left» = until;
-      «no_fast» = fastless;
+      «no_fast» = flag;
     }
 
 -- The day and the wing; year, month and date; first day, length and days left of the stretch; days remaining; the month code of
 -- the fast ahead, and the days left until it.
 abbrev pub on : ℕ → ℕ → ℕ → ℕ → ℕ → ℕ → ℕ → ℤ → ℕ → ℕ → ℕ → DayRecord
-on j wing h code d first days left remaining fast until = told j wing h code d first days left 0 remaining fast until 0
+on j wing h code d first days left remaining fast until = numbered j wing h code d first days left 0 remaining fast until 0
 
 -- The same without a fast, and without a stretch too: zeros, and the flags.
 abbrev pub fastless : ℕ → ℕ → ℕ → ℕ → ℕ → ℕ → ℕ → ℤ → ℕ → DayRecord
-fastless j wing h code d first days left remaining = told j wing h code d first days left 0 remaining 0 0 1
+fastless j wing h code d first days left remaining = numbered j wing h code d first days left 0 remaining 0 0 1
 
 abbrev pub onLast : ℕ → ℕ → ℕ → ℕ → ℕ → ℕ → DayRecord
-onLast j wing h code d remaining = told j wing h code d 0 0 (pos 0) 1 remaining 0 0 1
+onLast j wing h code d remaining = numbered j wing h code d 0 0 (pos 0) 1 remaining 0 0 1
 
 abbrev pub zeros : DayRecord
-zeros = told 0 0 0 0 0 0 0 (pos 0) 0 0 0 0 0
+zeros = numbered 0 0 0 0 0 0 0 (pos 0) 0 0 0 0 0
 
 abbrev pub Done : Moved → DayRecord → Type 0
 Done m r = m ≡ record { refusal = 0; after = r }

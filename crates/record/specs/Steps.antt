@@ -64,7 +64,8 @@ keptBack r x = let j = r .day - 1 in lasts r j && (leb (r .first) j || not (rest
 unfoldable pub stretchBackward : DayRecord → Dated → StretchAnswer
 stretchBackward r x = let j = r .day - 1 in cond (keptBack r x) (kept r j) (wingStretch (r .wing) j)
 
--- The record has a fast, of some month. A day on it is kept until it is past, with a day less left.
+-- A record with a fast has its month code, which is not 0: zeros are worked out afresh. A day on the fast is kept until it is
+-- past, with a day less left.
 abbrev pub hasFast : DayRecord → Bool
 hasFast r = ltb 0 (r .«fast_month»)
 

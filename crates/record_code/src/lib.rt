@@ -2,10 +2,10 @@
 // with the refusal number. `panel` lends the record.
 //
 // Set, a day is worked out afresh. Moved, most of it stays: the date goes on within its month, the stretch is kept while it
-// answers for the day, and the fast while it is ahead. What does not stay is worked out afresh. A record that none of these
+// answers for the day, and the fast while it is the next. What does not stay is worked out afresh. A record that none of these
 // calls made may hold any numbers; one that is counted with is looked at first.
-mod ahead;
 mod dates;
+mod next_fast;
 mod stretches;
 
 ghost use mathlib.Core.Path.{_≡_};
@@ -73,7 +73,7 @@ pub fn next(r: DayRecord) -> Moved
     let x = dates::on(r);
     leaves(
         0,
-        joined(r.wing, r.day + 1, x, stretches::on(r), ahead::on(r)),
+        joined(r.wing, r.day + 1, x, stretches::on(r), next_fast::on(r)),
     )
 }
 
@@ -95,7 +95,7 @@ pub fn back(r: DayRecord) -> Moved
             r.day - 1,
             x,
             stretches::back(r, x),
-            ahead::back(r, x),
+            next_fast::back(r, x),
         ),
     )
 }

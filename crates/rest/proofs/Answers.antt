@@ -15,7 +15,7 @@ use Rattle.laws.proofs.Stores.{list-written}
 use Rattle.laws.proofs.Promises.{smallest-after}
 use Rattle.molad.specs.Years.{InYears}
 use Rattle.hebrew.specs.Dates.{dayNumber}
-use Rattle.lists.specs.Lists.{noList}
+use Rattle.lists.specs.Lists.{noList, daysOf}
 use Rattle.lists.specs.declared.ListAnswer.{ListAnswer}
 use Rattle.lists.proofs.Lists.{list-promised, list-lent}
 use Rattle.rest.specs.Table.{restDays}
@@ -55,7 +55,7 @@ pub rest-days-given :
     (wing h : ℕ) (buffer : List ℕ) → wingRestDays wing h buffer .refusal ≡ 0 →
     let given = take (restCount wing) (wingRestDaysBuffer wing h buffer) in
     RestDaysOf (tableOf wing) h given × KeptBy wing (λ month day. dayNumber (record { year = h; month = month; day = day })) given
-unfolding tableOf restDays
+unfolding tableOf daysOf
 rest-days-given wing h buffer z =
     let met = rest-days-promised wing h buffer .done .0 z in
     let e = list-written (restDays (tableOf wing) h) buffer _ _ (restCount wing) (rest-days-lent wing h buffer) z (rest-count wing h) in (

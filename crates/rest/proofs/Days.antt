@@ -17,15 +17,15 @@ use Rattle.newyear.specs.NewYear.{yearLength, InYear}
 use Rattle.newyear.proofs.Lengths.{length-in}
 use Rattle.newyear.proofs.YearOf.{year-is, year-in-range}
 use Rattle.hebrew.specs.Dates.{dayNumber, dateOf}
-use Rattle.hebrew.specs.Rows.{row, rowDate, rowGood}
+use Rattle.hebrew.specs.Rows.{row, rowDate, rowDay, rowGood}
 use Rattle.hebrew.proofs.Placed.{month-short}
 use Rattle.hebrew.proofs.Rows.{GoodRow, good-row, row-date}
 use Rattle.hebrew.proofs.Dates.{date-good, date-day, date-back, in-its-year, dates-rise-by-month, dates-rise-by-day}
-use Rattle.lists.specs.Lists.{DaysRise}
+use Rattle.lists.specs.Lists.{daysOf, DaysRise}
+use Rattle.lists.proofs.Lists.{days-at, days-length}
 use Rattle.rest.specs.Table.{inTable, isRest, restDay, restDays}
 use Rattle.rest.specs.Check.{rowsRise, passes}
 use Rattle.rest.specs.Promises.{RestDaysOf}
-use Rattle.rest.proofs.Rows.{days-at, days-length}
 use Rattle.rest.proofs.RestOfYear.{rows-rise, rows-good}
 
 -- The date of a day is in the year that the day lies in.
@@ -61,14 +61,14 @@ module _ (h : ℕ) (l : 1 ≤ h) (u : h ≤ lastYear) where
 
   -- So it is in the list exactly if its date is in the table.
   listed : (table : List ℕ) → eachOf table (rowGood len) ≡ true → (j : ℕ) → InYear j h → elem j (restDays table h) ≡ inTable table (dateOf j)
-  unfolding restDays eachOf
+  unfolding daysOf eachOf
   listed [] good j i = refl
   listed (r ∷ table) good j i =
       rw (same-row j i r (good-row len r (and-left _ _ good)), listed table (and-right (rowGood len r) _ good) j i)
 
   -- A day of the list is a day of the year.
   of-the-year : (table : List ℕ) → eachOf table (rowGood len) ≡ true → (j : ℕ) → elem j (restDays table h) ≡ true → InYear j h
-  unfolding restDays eachOf
+  unfolding daysOf eachOf
   of-the-year [] good j e = absurd (false≢true e)
   of-the-year (r ∷ table) good j e =
       by-cases (ℕ-discrete j (dayNumber (rowDate h r)))
@@ -77,7 +77,7 @@ module _ (h : ℕ) (l : 1 ≤ h) (u : h ≤ lastYear) where
 
   -- The days of rows that rise, rise.
   days-rise : (table : List ℕ) → rowsRise table ≡ true → eachOf table (rowGood len) ≡ true → DaysRise (restDays table h)
-  unfolding restDays eachOf rowsRise
+  unfolding daysOf eachOf rowsRise
   days-rise [] up good = tt
   days-rise (r ∷ []) up good = tt
   days-rise (r ∷ s ∷ table) up good =
@@ -98,9 +98,9 @@ module _ (h : ℕ) (l : 1 ≤ h) (u : h ≤ lastYear) where
   rest-days-of table ok =
       let good = rows-good table ok h l u in
       record {
-        as-many = days-length table h;
+        as-many = days-length (rowDay h) table;
         rising = days-rise table (rows-rise table ok) good;
-        in-order = λ i p. rw (days-at table h i p) (date-back _ (row-date h _ (l, u) (good-row len _ (each-at table (rowGood len) good i p))));
+        in-order = λ i p. rw (days-at (rowDay h) table i p) (date-back _ (row-date h _ (l, u) (good-row len _ (each-at table (rowGood len) good i p))));
         rests =
             λ j e.
             let i = of-the-year table good j e in

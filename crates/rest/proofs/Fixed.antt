@@ -9,13 +9,12 @@ use Rattle.newyear.specs.NewYear.{newYear, yearLength}
 use Rattle.newyear.proofs.Quick.{quick, newYear-quick}
 use Rattle.hebrew.specs.Months.{monthLength, daysBefore}
 use Rattle.hebrew.specs.Dates.{dayNumber}
-use Rattle.lists.specs.Lists.{listAnswer, listBuffer}
-use Rattle.rest.specs.Table.{restDays}
+use Rattle.lists.specs.Lists.{listAnswer, listBuffer, daysOf}
 use Rattle.rest.specs.Wings.{tableOf}
 use Rattle.rest.specs.Fixed.{WordsFixed}
 
 pub words-fixed : WordsFixed
-unfolding listAnswer listBuffer tableOf restDays dayNumber daysBefore monthLength overwrite quick yearLength
+unfolding listAnswer listBuffer tableOf daysOf dayNumber daysBefore monthLength overwrite quick yearLength
 words-fixed =
     let start : newYear 5762 ≡ 2452171 = newYear-quick 5762 (omega arith) in
     let long : newYear (5762 + 1) ≡ 2452525 = newYear-quick 5763 (omega arith) in

@@ -13,7 +13,7 @@ use Rattle.laws.specs.Buffer.{Lent}
 use Rattle.laws.proofs.Tests.{within}
 use Rattle.laws.proofs.Stores.{lent-unless}
 use Rattle.laws.proofs.Promises.{Catches, asks}
-use Rattle.lists.specs.Lists.{noList}
+use Rattle.lists.specs.Lists.{noList, daysOf}
 use Rattle.lists.specs.declared.ListAnswer.{ListAnswer}
 use Rattle.rest.specs.Table.{restTable, guestTable, restDays}
 use Rattle.rest.specs.Wings.{IsWing, outOfWings, tableOf, ofWing}
@@ -44,7 +44,7 @@ wing-lent wing list buffer answer after lent =
 
 -- How many rest days the wing has.
 pub rest-count : (wing h : ℕ) → length (restDays (tableOf wing) h) ≡ restCount wing
-unfolding tableOf restDays
+unfolding tableOf daysOf
 rest-count wing h = go (eqb wing 1)
   where
     go : (first : Bool) → length (restDays (cond first restTable guestTable) h) ≡ cond first 8 13

@@ -6,8 +6,9 @@ use lib.Dec.{eqb}
 use Rattle.laws.specs.Runs.{elem}
 use Rattle.days.specs.Range.{outOfRange}
 use Rattle.days.specs.Weekday.{weekday}
-use Rattle.hebrew.specs.Dates.{Date, dayNumber, dateOf}
-use Rattle.hebrew.specs.Rows.{row, rowDate}
+use Rattle.hebrew.specs.Dates.{Date, dateOf}
+use Rattle.hebrew.specs.Rows.{row, rowDay}
+use Rattle.lists.specs.Lists.{daysOf}
 
 -- Wing 1's eight rest days, document 01's, stand in a table in this order: Tishri 1, 2, 10, 15, 22; Nisan 15, 21; Sivan 6.
 abbrev pub restTable : List ℕ
@@ -33,6 +34,5 @@ unfoldable pub restDay : List ℕ → ℕ → Bool
 restDay table j = not (outOfRange j) && isRest table j
 
 -- The day numbers of a year's rest days, in table order.
-unfoldable pub restDays : List ℕ → ℕ → List ℕ
-restDays [] h = []
-restDays (r ∷ table) h = dayNumber (rowDate h r) ∷ restDays table h
+abbrev pub restDays : List ℕ → ℕ → List ℕ
+restDays table h = daysOf (rowDay h) table

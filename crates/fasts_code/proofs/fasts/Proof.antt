@@ -3,8 +3,7 @@ use borrow.Author.Tests.{lt-ltb, le-ltb}
 use Rattle.laws.proofs.Tests.{within}
 use Rattle.molad.specs.Years.{lastYear}
 use Rattle.newyear_code.proofs.Spanned.{spans-own}
-use Rattle.lists.specs.Lists.{listAnswer, listBuffer}
-use Rattle.fasts.specs.Fasts.{fastDays}
+use Rattle.lists.specs.Lists.{listAnswer, listBuffer, daysOf}
 use Rattle.fasts.proofs.Kept.{table-good}
 use Rattle.fasts_code.proofs.fasts.Statement.{statement}
 use Rattle.fasts_code.proofs.fasts.Tie as tie
@@ -14,11 +13,11 @@ unfolding listAnswer listBuffer
 returns c = (rw (c .if1 .taken), rw (c .if1 .taken))
 
 returns-2 : tie.Need-returns-2
-unfolding listAnswer listBuffer fastDays
+unfolding listAnswer listBuffer daysOf
 returns-2 c = let e = c .before .if1 .left in let t = lt-ltb _ _ (c .if2 .taken) in (rw (e, t), rw (e, t))
 
 returns-3 : tie.Need-returns-3
-unfolding listAnswer listBuffer fastDays
+unfolding listAnswer listBuffer daysOf
 returns-3 c =
     let d = c .before .before in
     let s = d .before .before in

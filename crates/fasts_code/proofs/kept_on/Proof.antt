@@ -1,6 +1,6 @@
 use borrow.Author.Needs.{needs}
-use mathlib.Core.Path.{_≡_, refl, sym, _∙_}
-use mathlib.Core.Bool.{Bool, true, false, _||_}
+use mathlib.Core.Path.{_≡_, sym, _∙_}
+use mathlib.Core.Bool.{_||_}
 use mathlib.Core.List.{[], _∷_}
 use Prim.Native.Nat.{ℕ}
 use borrow.Author.Tests.{eq-eqb, ne-eqb}
@@ -9,18 +9,14 @@ use Rattle.laws.specs.Runs.{elem}
 use Rattle.days.specs.Weekday.{weekday}
 use Rattle.fasts.specs.Fasts.{keptOn}
 use Rattle.fasts.proofs.Kept.{kept-own, kept-sunday, kept-thursday}
+use Rattle.fasts_code.proofs.Among.{among, among-is}
 use Rattle.fasts_code.proofs.kept_on.Statement.{statement}
 use Rattle.fasts_code.proofs.kept_on.Tie as tie
 
--- Three tests are those of a table of three.
-three : (a b c : Bool) → a || (b || (c || false)) ≡ a || (b || c)
-three true b c = refl
-three false true c = refl
-three false false true = refl
-three false false false = refl
-
-among : (code : ℕ) → elem code (1 ∷ 11 ∷ 12 ∷ []) ≡ eqb code 1 || (eqb code 11 || eqb code 12)
-among code = three (eqb code 1) (eqb code 11) (eqb code 12)
+-- The test is that of the months whose fasts move to the Sunday.
+sundays : (code : ℕ) → eqb code 1 || eqb code 11 || eqb code 12 ≡ elem code (1 ∷ 11 ∷ 12 ∷ [])
+unfolding among
+sundays code = among-is code (1 ∷ 11 ∷ 12 ∷ [])
 
 saturday : (c : tie.Else1) → weekday (c .before .before .args .day) ≡ 7
 saturday c = sym (c .before .weekday-of .ensures) ∙ c .if1 .left
@@ -30,7 +26,7 @@ unfolding keptOn
 returns-4 c =
     let e = c .before in
     let a = e .before .before .before .args in
-    rw (eq-eqb _ 7 (saturday (e .before)), among (a .month) ∙ e .if2 .left, ne-eqb (a .month) 7 (c .if3 .left))
+    rw (eq-eqb _ 7 (saturday (e .before)), sym (sundays (a .month)) ∙ e .if2 .left, ne-eqb (a .month) 7 (c .if3 .left))
 
 pub kept-on-spec : {M : Type 1} → statement M
 kept-on-spec =
@@ -39,7 +35,7 @@ kept-on-spec =
     (search needs)
     (λ c. sym (kept-own _ _ (λ e. c .if1 .taken (c .before .weekday-of .ensures ∙ e))))
     (search needs)
-    (λ c. sym (kept-sunday _ _ (among (c .before .before .before .args .month) ∙ c .if2 .taken) (saturday (c .before))))
+    (λ c. sym (kept-sunday _ _ (sym (sundays (c .before .before .before .args .month)) ∙ c .if2 .taken) (saturday (c .before))))
     (search needs)
     (λ c. rw (c .if3 .taken) (sym (kept-thursday _ (saturday (c .before .before)))))
     returns-4)

@@ -9,8 +9,8 @@ use Rattle.laws.specs.Buffer.{overwrite}
 use Rattle.laws.proofs.Stores.{over-take}
 use Rattle.laws.proofs.Tests.{each-at}
 use Rattle.hebrew.specs.Rows.{rowGood}
-use Rattle.fasts.specs.Fasts.{fastDays}
-use Rattle.fasts.proofs.Kept.{days-at, days-length}
+use Rattle.lists.proofs.Lists.{days-at, days-length}
+use Rattle.fasts.specs.Fasts.{fastDay, fastDays}
 use Rattle.fasts_code.proofs.write_days.Statement.{statement}
 use Rattle.fasts_code.proofs.write_days.Tie as tie
 
@@ -36,8 +36,8 @@ loop-again c =
     let s = l .before .before .before in
     let t = s .args .table .now in
     let h = s .args .span .year in
-    let long = days-length t h in
-    let v = rw (← c .fast-day .ensures) at (days-at t h (l .loop .i) (omega arith)) in (
+    let long = days-length (fastDay h) t in
+    let v = rw (← c .fast-day .ensures) at (days-at (fastDay h) t (l .loop .i) (omega arith)) in (
       search needs,
       simp length-set (l .loop .inv .1),
       rw (← v, l .loop .inv .2) (over-take _ (fastDays t h) (l .loop .i) (omega arith) (omega (arith, s .pre .1 .1))),
@@ -47,7 +47,7 @@ returns : tie.Need-returns Inv-loop μ-loop
 returns c =
     let l = c .before in
     let a = l .before .before .before .args in
-    let long = days-length (a .table .now) (a .span .year) in
+    let long = days-length (fastDay (a .span .year)) (a .table .now) in
     rw (take-all (l .loop .i) (fastDays (a .table .now) (a .span .year)) (omega arith)) at (l .loop .inv .2)
 
 pub write-days-spec : {M : Type 1} → statement M

@@ -6,11 +6,11 @@ use lib.ListN.{length}
 use Rattle.laws.proofs.Tests.{within}
 use Rattle.molad.specs.Years.{lastYear, outOfYears}
 use Rattle.lists.specs.Lists.{listAnswer, listBuffer}
+use Rattle.lists.proofs.Lists.{days-length}
 use Rattle.newyear_code.proofs.Spanned.{spans-own}
 use Rattle.rest.specs.Table.{restDays}
 use Rattle.rest.specs.Wings.{outOfWings, tableOf}
 use Rattle.rest.proofs.Refused.{list-refused, list-passed}
-use Rattle.rest.proofs.Rows.{days-length}
 use Rattle.rest_code.proofs.rest_days.Statement.{statement}
 use Rattle.rest_code.proofs.rest_days.Tie as tie
 

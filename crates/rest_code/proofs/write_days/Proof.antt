@@ -9,10 +9,10 @@ use Rattle.laws.specs.Buffer.{overwrite}
 use Rattle.laws.proofs.Stores.{over-take}
 use Rattle.laws.proofs.Tests.{each-at}
 use Rattle.hebrew.specs.Dates.{dayNumber}
-use Rattle.rest.specs.Table.{restDays}
-use Rattle.hebrew.specs.Rows.{rowGood}
+use Rattle.hebrew.specs.Rows.{rowDay, rowGood}
 use Rattle.hebrew.proofs.Rows.{good-row}
-use Rattle.rest.proofs.Rows.{days-at, days-length}
+use Rattle.lists.proofs.Lists.{days-at, days-length}
+use Rattle.rest.specs.Table.{restDays}
 use Rattle.rest_code.proofs.write_days.Statement.{statement}
 use Rattle.rest_code.proofs.write_days.Tie as tie
 
@@ -53,9 +53,9 @@ loop-again c =
     let s = l .before .before .before in
     let t = s .args .table .now in
     let h = s .args .span .year in
-    let long = days-length t h in
+    let long = days-length (rowDay h) t in
     let e = s .pre .0 in
-    let v = rw (← e .begins, ← e .days, ← d .days-before .ensures .0) at (days-at t h (l .loop .i) (omega arith)) in (
+    let v = rw (← e .begins, ← e .days, ← d .days-before .ensures .0) at (days-at (rowDay h) t (l .loop .i) (omega arith)) in (
       search needs,
       simp length-set (l .loop .inv .1),
       rw (← v, l .loop .inv .2) (over-take _ (restDays t h) (l .loop .i) (omega arith) (omega (arith, s .pre .1 .1))),
@@ -65,7 +65,7 @@ returns : tie.Need-returns Inv-loop μ-loop
 returns c =
     let l = c .before in
     let a = l .before .before .before .args in
-    let long = days-length (a .table .now) (a .span .year) in
+    let long = days-length (rowDay (a .span .year)) (a .table .now) in
     rw (take-all (l .loop .i) (restDays (a .table .now) (a .span .year)) (omega arith)) at (l .loop .inv .2)
 
 pub write-days-spec : {M : Type 1} → statement M

@@ -1,8 +1,8 @@
 use borrow.Author.Needs.{needs}
 use Rattle.record.specs.Steps.{fastOnward}
 use Rattle.record_code.proofs.Sound.{fast-on-sound}
-use Rattle.record_code.proofs.ahead.on.Statement.{statement}
-use Rattle.record_code.proofs.ahead.on.Tie as tie
+use Rattle.record_code.proofs.next_fast.on.Statement.{statement}
+use Rattle.record_code.proofs.next_fast.on.Tie as tie
 
 pub on-spec : {M : Type 1} → statement M
 unfolding fastOnward

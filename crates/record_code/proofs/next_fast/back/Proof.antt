@@ -5,8 +5,8 @@ use Prim.Native.Nat.{_+_, _<_, _^_}
 use native.Mathlib.Omega.{arith}
 use Rattle.record.specs.Steps.{fastKeptBack, fastBackward}
 use Rattle.record_code.proofs.Sound.{fast-back-sound}
-use Rattle.record_code.proofs.ahead.back.Statement.{statement}
-use Rattle.record_code.proofs.ahead.back.Tie as tie
+use Rattle.record_code.proofs.next_fast.back.Statement.{statement}
+use Rattle.record_code.proofs.next_fast.back.Tie as tie
 
 -- The test is that of the step.
 kept : (c : tie.Then1) → let a = c .before .before .before .before .args in fastKeptBack (a .r) (a .x) ≡ true
