@@ -21,7 +21,8 @@ use Rattle.lists.specs.Lists.{daysOf}
 use Rattle.lists.specs.declared.ListAnswer.{ListAnswer}
 use Rattle.lists.proofs.Lists.{list-promised, list-lent, days-hold}
 use Rattle.fasts.specs.Fasts.{fastTable, fastDay, fastDays}
-use Rattle.fasts.specs.Ahead.{FastOn, fastAhead, mayFast}
+use Rattle.fasts.specs.Ahead.{FastOn, fastAhead}
+use Rattle.fasts.specs.Steps.{mayFast}
 use Rattle.fasts.specs.Answers.{fastsAnswer, fastsBuffer}
 use Rattle.fasts.specs.Promises.{fastMonths, on, FastsOf, PromisedFasts}
 use Rattle.fasts.specs.declared.Ahead.{Ahead}

@@ -23,7 +23,7 @@ use Rattle.hebrew.proofs.Dates.{date-back, in-its-year, dates-rise-by-month}
 use Rattle.hebrew.proofs.Rows.{good-row, row-date}
 use Rattle.hebrew.proofs.Weekdays.{weekday-by-kind}
 use Rattle.fasts.specs.Fasts.{fastTable, keptOn, fastDay}
-use Rattle.fasts.specs.Ahead.{fastDates, mayFast}
+use Rattle.fasts.specs.Steps.{fastDates, mayFast}
 
 -- What holds of the five rows holds of each row of the table.
 pub of-five : (P : ℕ → Type 0) → P (row 1 3) → P (row 4 10) → P (row 7 13) → P (row 11 17) → P (row 12 9) → (r : ℕ) → elem r fastTable ≡ true → P r

@@ -7,7 +7,8 @@ use native.Mathlib.Omega.{arith}
 use native.Mathlib.Decide.{ℕ-discrete, decLt}
 use Rattle.days.specs.Range.{lastDay, InRange}
 use Rattle.hebrew.specs.Dates.{dateOf}
-use Rattle.fasts.specs.Ahead.{FastOn, fastAhead, mayFast}
+use Rattle.fasts.specs.Ahead.{FastOn, fastAhead}
+use Rattle.fasts.specs.Steps.{mayFast}
 use Rattle.fasts.proofs.Kept.{fast-month, fast-may}
 use Rattle.fasts.proofs.Found.{NextFast, none-later, told}
 

@@ -1,6 +1,6 @@
 -- The fast that a day has ahead: the next one, on the day or later.
 use mathlib.Core.Path.{_≡_}
-use mathlib.Core.Bool.{Bool, true, cond}
+use mathlib.Core.Bool.{true, cond}
 use mathlib.Core.List.{List, [], _∷_}
 use Prim.Native.Nat.{ℕ, _+_, _-_, _/_}
 use lib.Dec.{eqb, leb, ltb}
@@ -40,10 +40,3 @@ fastAhead j =
     let h = yearOf j in
     let own = aheadIn (fastDay h) j fastTable in
     cond (eqb (own .none) 0) own (cond (ltb h lastYear) (aheadOf j 1 (fastDay (h + 1) (row 1 3))) noFast)
-
--- A date on which a fast may be kept: one of the table, or one to which it may be moved.
-abbrev pub fastDates : List ℕ
-fastDates = row 1 3 ∷ row 1 4 ∷ row 4 10 ∷ row 7 11 ∷ row 7 13 ∷ row 11 17 ∷ row 11 18 ∷ row 12 9 ∷ row 12 10 ∷ []
-
-unfoldable pub mayFast : ℕ → ℕ → Bool
-mayFast code d = elem (row code d) fastDates

@@ -55,8 +55,8 @@ PromisedFasts h buffer =
     Promised (λ (r : ListAnswer). r .refusal) (InYears h else 1 ∷ (5 ≤ length buffer) else 10 ∷ [])
     (λ r. r .count ≡ 5) (λ n r. r .count ≡ cond (eqb n 10) 5 0)
 
--- What is told of the fast ahead of day j: its month code and the days left until it, and there is none before it; on the last
--- fifty days of the range, on which no fast is kept, zeros and the flag.
+-- What is told of the fast ahead of day j: its month code and the days left until it, and no fast comes between; on the last fifty
+-- days of the range, on which none is kept, zeros and the flag.
 pub record FastTold (j : ℕ) (f : Ahead) : Type 0 where
   pub ahead :
       j ≤ lastDay - 50 →

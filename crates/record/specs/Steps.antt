@@ -9,7 +9,8 @@ use Rattle.laws.specs.Runs.{elem}
 use Rattle.days.specs.Range.{lastDay}
 use Rattle.days.specs.Weekday.{weekday}
 use Rattle.hebrew.specs.Rows.{row}
-use Rattle.fasts.specs.Ahead.{fastAhead, mayFast}
+use Rattle.fasts.specs.Ahead.{fastAhead}
+use Rattle.fasts.specs.Steps.{mayFast}
 use Rattle.fasts.specs.declared.Ahead.{Ahead}
 use Rattle.rest.specs.Wings.{tableOf}
 use Rattle.stretch.specs.Answers.{wingStretch}

@@ -1,6 +1,6 @@
 use borrow.Author.Needs.{needs}
 use Prim.Native.Nat.{_+_, _*_}
-use Rattle.fasts.specs.Ahead.{fastDates, mayFast}
+use Rattle.fasts.specs.Steps.{fastDates, mayFast}
 use Rattle.fasts_code.proofs.Among.{among, among-is}
 use Rattle.fasts_code.proofs.may_fast.Statement.{statement}
 use Rattle.fasts_code.proofs.may_fast.Tie as tie
