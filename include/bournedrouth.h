@@ -23,8 +23,8 @@
  *     length given with it is 0 it may be NULL: it is proved that no entry and no byte is touched then, and seen in
  *     the archive's code and tested, for the lists of every year and for sheets, written and read, that no more is
  *     asked of the pointer.
- *   - Header and archive must be of one version: nothing checks it, and a record or an answer of another length would be
- *     written past its end.
+ *   - Header and archive must be of one major version: nothing checks it, and a record or an answer that is shorter in
+ *     the header would be written past its end.
  *   - A length must be true: at least so many numbers, or bytes, stand at the pointer. During the call nobody else
  *     uses what it writes, a record or a walker too, and nobody changes a sheet that it reads. Several calls may read
  *     one sheet at once.
