@@ -34,7 +34,7 @@ pub fasts-promised : (h : ℕ) (buffer : List ℕ) → PromisedFasts h buffer (f
 unfolding daysOf
 fasts-promised h buffer = list-promised h buffer (fastDays fastTable h) 5
 
--- Where both are refused for, the smaller number is given.
+-- Where year and room are both bad, the smaller number is given.
 pub fasts-smallest : (h : ℕ) (buffer : List ℕ) → Smallest (fasts-promised h buffer)
 fasts-smallest h buffer = smallest (fasts-promised h buffer) (omega arith, (omega arith, tt))
 

@@ -4,7 +4,7 @@ use mathlib.Core.List.{List, [], _∷_}
 use Prim.Native.Nat.{ℕ, _+_}
 use Rattle.lists.specs.Lists.{listAnswer, listBuffer, daysOf, DaysRise}
 
--- Two numbers to write, and how many are told; lent: one number, two and three.
+-- Two numbers to write, which count as one; lent: one number, two and three.
 abbrev pub list : List ℕ
 list = 5 ∷ 9 ∷ []
 
