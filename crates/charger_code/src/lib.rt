@@ -4,7 +4,7 @@ ghost use Rattle.std.specs.Prelude.{◌≡◌, ◌≤◌};
 ghost use Rattle.days.specs.Range.{last_day};
 ghost use Rattle.charger.specs.Charging.{bad_figures, hours_needed};
 ghost use Rattle.charger.specs.Promises.{GoodFigures};
-ghost use Rattle.charger.specs.Answers.{no_start, planned as plannedFor, charge_answer};
+ghost use Rattle.charger.specs.Answers.{no_start, planned as planned_for, charge_answer};
 
 use charger::{ChargeAnswer, Figures};
 use stretch::StretchAnswer;
@@ -49,7 +49,7 @@ fn hours_needed(figures: Figures, need: u64) -> u64
 // For good figures and days of the range: what is answered for a stretch, where charging may begin with day `from`.
 fn planned(from: u64, stretch: StretchAnswer, figures: Figures) -> ChargeAnswer
     requires { (GoodFigures figures) × ((from ≤ last_day) × ((stretch.first ≤ last_day) × (stretch.length ≤ 3))) }
-    ensures { result ≡ plannedFor from stretch figures }
+    ensures { result ≡ planned_for from stretch figures }
 {
     if 0 < stretch.refusal {
         return refused(9);

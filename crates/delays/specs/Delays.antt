@@ -46,19 +46,19 @@ tuesday_cause = 4
 abbrev pub monday_cause : ℕ
 monday_cause = 5
 
-infix 80 ◌daysBy◌
-abbrev pub ◌daysBy◌ : ℕ → ℕ → Delayed
-days daysBy cause = record { delay = days; cause = cause }
+infix 80 ◌days_by◌
+abbrev pub ◌days_by◌ : ℕ → ℕ → Delayed
+days days_by cause = record { delay = days; cause = cause }
 
 -- What the rules decide: the Tuesday rule; else the Monday rule; else, at noon or later, whether the next day is a Sunday,
 -- Wednesday or Friday, and before noon whether this day is.
 abbrev pub by_rules : Bool → Bool → Bool → Bool → Bool → Delayed
 by_rules tuesday monday past_noon next this =
-    cond tuesday (2 daysBy tuesday_cause)
-    (cond monday (1 daysBy monday_cause)
+    cond tuesday (2 days_by tuesday_cause)
+    (cond monday (1 days_by monday_cause)
     (cond past_noon
-    (cond next (2 daysBy noon_then_weekday) (1 daysBy noon_cause))
-    (cond this (1 daysBy weekday_cause) (0 daysBy no_cause))))
+    (cond next (2 days_by noon_then_weekday) (1 days_by noon_cause))
+    (cond this (1 days_by weekday_cause) (0 days_by no_cause))))
 
 -- The days from the molad's day to New Year, and their cause.
 unfoldable pub delayed : ℕ → ℕ → Bool → Bool → Delayed

@@ -23,7 +23,7 @@ use Rattle.newyear.proofs.Fixed.{quick_answer, answer_quick}
 use Rattle.rhodes.proofs.Same.{same_answer}
 use Rattle.stretch.proofs.Fixed.{stretch_from}
 use Rattle.hebrew.specs.Months.{month_length}
-use Rattle.hebrew.specs.Months.{days_before as hebrewDaysBefore}
+use Rattle.hebrew.specs.Months.{days_before as hebrew_days_before}
 use Rattle.hebrew.specs.Dates.{month_of}
 use Rattle.hebrew.specs.Steps.{year_date}
 use Rattle.rest.specs.Wings.{table_of}
@@ -64,7 +64,7 @@ unfolding quick
 begins_5776 = new_year_quick 5776 (omega arith)
 
 pub days_checked : AllHold days_to_check
-unfolding quick molad_after table_of weekday_answer civil_day julian_leap days_before month_days rest_at year_date month_of begun hebrewDaysBefore month_length next_at first_for past_for seek seek_not run_start
+unfolding quick molad_after table_of weekday_answer civil_day julian_leap days_before month_days rest_at year_date month_of begun hebrew_days_before month_length next_at first_for past_for seek seek_not run_start
 days_checked =
     new_year_row 1 347998 (omega arith) refl
     and molad_row 1 2 5 204 (omega arith) refl refl refl
