@@ -42,7 +42,7 @@ ahead_in_spec =
     tie.close
     (tie.spec
     (search rules)
-    (λ c κs. let e = c.before.requires.1 in (spans_own _ _ e, table_good _ e.decreases))
+    (λ c κs. let e = c.before.requires.1 in (spans_own _ _ e, table_good _ e.measured))
     returns
     (search rules)
     (search rules)

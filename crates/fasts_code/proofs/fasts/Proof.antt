@@ -35,6 +35,6 @@ fasts_spec =
     (λ c κs. within 1 last_year _ c.before.before.if-year.false)
     (λ c κs.
     let y = c.before in
-    let s = spans_own _ _ y.year_span.ensures in (s, (table_good _ s.decreases, y.before.before.if-out-lt-FASTS.false)))
+    let s = spans_own _ _ y.year_span.ensures in (s, (table_good _ s.measured, y.before.before.if-out-lt-FASTS.false)))
     (search rules)
     returns-3)

@@ -15,7 +15,7 @@ write_rows_requires c κs =
     let w = c.before in
     let s = w.before.before in
     let e = s.requires.0 in
-    (omega arith, (omega (arith, e.small), (e.decreases, (rw (w.weekday_of-weekday.ensures, e.days, e.begins) (kind_in s.args.span.year e.first (omega (arith, e.last))), s.requires.1))))
+    (omega arith, (omega (arith, e.small), (e.measured, (rw (w.weekday_of-weekday.ensures, e.days, e.begins) (kind_in s.args.span.year e.first (omega (arith, e.last))), s.requires.1))))
 
 returns : tie.Need-returns
 returns c =
