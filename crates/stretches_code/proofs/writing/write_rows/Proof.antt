@@ -19,6 +19,7 @@ use Rattle.stretches.proofs.Growing.{ends, run_more, run_few, rows_yes, rows_no,
 use Rattle.stretches.proofs.OfKind.{rows_in_room}
 use Rattle.stretch.proofs.Walk.{walked_small, walked_rests}
 use Rattle.stretches_code.proofs.writing.write_rows.Statement.{statement}
+use Rattle.stretches_code.proofs.writing.write_rows.Lts.{then-rests-run, else-rests-run}
 use Rattle.stretches_code.proofs.writing.write_rows.Tie as tie
 
 abbrev invariant-loop : tie.invariant-loop-date
