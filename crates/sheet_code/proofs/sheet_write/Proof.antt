@@ -101,7 +101,7 @@ returns-5 c =
     let room = rw (wanted n) at l.if-out-size.false in
     let f = le-ltb _ _ room in
     let stored = rw (p.put_header.ensures, n.count_rows-rows.ensures.0) at y.write_years.ensures in
-    (rw (g.wing_good, g.years_good, g.ends_good, wanted n, f), rw (g.wing_good, g.years_good, g.ends_good, f) (stored ∙ all_written a.wing a.first_year a.years a.out-1.now room))
+    (rw (g.wing_good, g.years_good, g.ends_good, wanted n, f), rw (g.wing_good, g.years_good, g.ends_good, f) (stored ∙ all_written a.wing a.first_year a.years a.out.now room))
 
 put_header_requires : tie.Need-put_header-requires
 put_header_requires c κs = let l = c.before in (omega (arith, l.if-out-size.false), (small l.before).0)

@@ -28,7 +28,7 @@ one_more :
     (c : tie.After-put_row invariant-loop decreases-loop) →
     let l = c.before.before.before.before.before in
     let a = l.before.before.before.args in
-    c.put_row.new.0 ≡ sets a.out-1.now a.at (joined (row_of a.wing a.list.now) (l.loop-k.k + 1))
+    c.put_row.new.0 ≡ sets a.out.now a.at (joined (row_of a.wing a.list.now) (l.loop-k.k + 1))
 unfolding row_of
 one_more c =
     let l = c.before.before.before.before.before in
@@ -37,7 +37,7 @@ one_more c =
     let row = row_of a.wing a.list.now in
     c.put_row.ensures
     ∙ rw (l.loop-k.invariant.2, joined_more row k)
-    (sets_more a.out-1.now (joined row k) (row k) a.at (a.at + 6 * k) (omega (arith, rows_long a.wing a.list.now k)))
+    (sets_more a.out.now (joined row k) (row k) a.at (a.at + 6 * k) (omega (arith, rows_long a.wing a.list.now k)))
 
 loop-again : tie.Need-loop-k-preserved invariant-loop decreases-loop
 loop-again c =
@@ -45,7 +45,7 @@ loop-again c =
     let l = p.before.before.before.before.before in
     let a = l.before.before.before.args in
     let stored = one_more p in
-    (omega arith, rw stored (length-sets a.out-1.now a.at (joined (row_of a.wing a.list.now) (l.loop-k.k + 1))), stored)
+    (omega arith, rw stored (length-sets a.out.now a.at (joined (row_of a.wing a.list.now) (l.loop-k.k + 1))), stored)
 
 returns : tie.Need-returns invariant-loop decreases-loop
 returns c =

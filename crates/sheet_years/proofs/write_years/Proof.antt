@@ -39,7 +39,7 @@ one_more :
     (c : tie.After-put_entry invariant-loop decreases-loop) →
     let l = c.before.before.before.before.before.before.before.before in
     let a = l.before.before.args in
-    c.put_entry.new.0 ≡ written a.wing a.first_year a.years a.out-1.now (l.loop-i.i + 1)
+    c.put_entry.new.0 ≡ written a.wing a.first_year a.years a.out.now (l.loop-i.i + 1)
 unfolding entry_of
 one_more c =
     let w = c.before.before.before.before in
@@ -51,7 +51,7 @@ one_more c =
     let rows = rw s.year at n.0 in
     c.put_entry.ensures
     ∙ rw (n.1.1, l.loop-i.invariant.4, l.loop-i.invariant.1, s.year, s.days, rows)
-    (year_more a.wing a.first_year a.years l.loop-i.i a.out-1.now y.before.loop-i-test.true)
+    (year_more a.wing a.first_year a.years l.loop-i.i a.out.now y.before.loop-i-test.true)
 
 loop-again : tie.Need-loop-i-preserved invariant-loop decreases-loop
 loop-again c =
@@ -67,7 +67,7 @@ loop-again c =
       omega arith,
       omega (arith, l.loop-i.invariant.1, rows, more),
       omega (arith, l.loop-i.invariant.2, rows, more, n.1.0),
-      rw stored (written_long a.wing a.first_year a.years a.out-1.now (l.loop-i.i + 1)),
+      rw stored (written_long a.wing a.first_year a.years a.out.now (l.loop-i.i + 1)),
       stored,
     )
 
