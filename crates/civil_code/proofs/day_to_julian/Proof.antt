@@ -17,13 +17,13 @@ day_to_julian_spec =
     (search rules)
     (λ c.
     let t = c.before in
-    rw (c.no_date.ensures, ← t.before.out_of_range.ensures, t.if1.true))
+    rw (c.no_date.ensures, ← t.before.out_of_range.ensures, t.if-out_of_range.true))
     (λ c κs.
     let b = c.before in
-    in_range b.before.args.day b.out_of_range.ensures c.if1.false)
+    in_range b.before.args.day b.out_of_range.ensures c.if-out_of_range.false)
     (search rules)
     (λ c.
     let y = c.before in
     let t = y.before in
     let b = t.before in
-    date_answer julian julian_covers b.before.args.day (sym b.out_of_range.ensures ∙ t.if1.false) y.year_of.result y.year_of.ensures c.date_in.result c.date_in.ensures))
+    date_answer julian julian_covers b.before.args.day (sym b.out_of_range.ensures ∙ t.if-out_of_range.false) y.year_of.result y.year_of.ensures c.date_in.result c.date_in.ensures))

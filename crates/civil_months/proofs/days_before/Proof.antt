@@ -19,7 +19,7 @@ days_before_spec =
     (λ c.
     let s = c.before in
     let a = s.args in
-    omega (arith, early_start_lem a.leap a.month s.requires.0 c.if1.true, before_most a.leap a.month s.requires.1))
+    omega (arith, early_start_lem a.leap a.month s.requires.0 c.if-month-lt3.true, before_most a.leap a.month s.requires.1))
     (λ c.
     let s = c.before.before in
     let a = s.args in

@@ -21,4 +21,4 @@ month_of_spec =
     (λ c.
     let b = c.before in
     let s = b.before in
-    rw b.days_before.ensures.0 (late_month_lem s.args.leap s.args.day (omega arith) s.requires)))
+    rw b.days_before-march.ensures.0 (late_month_lem s.args.leap s.args.day (omega arith) s.requires)))

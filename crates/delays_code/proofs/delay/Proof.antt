@@ -54,9 +54,9 @@ returns c =
     let a = s.args in
     let p = passed a.weekday s.requires.0 s.requires.1 (not a.leap) a.after_leap (leb 9924 a.time) (leb 16789 a.time) (ltb a.time 19440) in
     rw (
-      c.pick3.ensures.0,
-      c.before.pick2.ensures.0,
-      n.pick.ensures.0,
+      c.pick-monday.ensures.0,
+      c.before.pick-tuesday.ensures.0,
+      n.pick-noon.ensures.0,
       by_times_lem a.weekday a.time a.leap a.after_leap,
       noon_or_before a.time,
     )

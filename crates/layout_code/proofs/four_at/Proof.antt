@@ -8,7 +8,7 @@ returns : tie.Need-returns
 returns c =
     let a = c.before.before.before.args in
     let low = c.before.two_at.ensures in
-    let high = c.two-at2.ensures in
+    let high = c.two_at-2.ensures in
     (omega (arith, low.0, high.0, number_two a.bytes.now a.at 2 (omega arith)), omega (arith, low.1, high.1))
 
 pub four_at_spec : {M : Type 1} → statement M

@@ -15,16 +15,16 @@ returns c =
     let w = x.before.before.before.before in
     let v = w.before.before.before.before in
     let a = v.before.before.before.args in
-    let e = a.out.now in
+    let e = a.out-1.now in
     let years = little_endian 2 a.years in
     let first = little_endian 2 a.first_year in
     let rows = little_endian 4 a.rows in
     let index = little_endian 4 index_offset in
     rw (
-      z.put-four3.ensures,
-      y.put-four2.ensures,
+      z.put_four-3.ensures,
+      y.put_four-2.ensures,
       x.put_four.ensures,
-      w.put-two2.ensures,
+      w.put_two-2.ensures,
       v.put_two.ensures,
       sets_more e years first 0 2 (omega arith),
       sets_more e (years ++ first) rows 0 4 (omega arith),

@@ -8,7 +8,7 @@ returns : tie.Need-returns
 returns c =
     let a = c.before.before.before.args in
     let low = c.before.one_at.ensures in
-    let high = c.one-at2.ensures in (
+    let high = c.one_at-2.ensures in (
       omega (arith, low.0, high.0, number_more a.bytes.now a.at 1 (omega arith), number_one a.bytes.now a.at (omega arith)),
       omega (arith, low.1, high.1),
     )

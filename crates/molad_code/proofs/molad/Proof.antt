@@ -11,18 +11,18 @@ use Rattle.molad.proofs.Closed.{months_of_year}
 use Rattle.molad_code.proofs.molad.Statement.{statement}
 use Rattle.molad_code.proofs.molad.Tie as tie
 
-returns : tie.Need-returns
+returns : tie.Need-returns-then-year
 unfolding molad_answer
-returns c = rw c.before.if1.true c.refused.ensures
+returns c = rw c.before.if-year.true c.refused.ensures
 
-months_before_requires : tie.Need-months-before-requires
-months_before_requires c κs = let w = within 1 last_year c.before.args.year c.if1.false in omega arith
+months_before_requires : tie.Need-months_before-before-requires
+months_before_requires c κs = let w = within 1 last_year c.before.args.year c.if-year.false in omega arith
 
-returns-2 : tie.Need-returns-2
+returns-2 : tie.Need-returns-then-month-before
 unfolding molad_answer no_month
 returns-2 c =
     let m = c.before.before.before in
-    rw (m.before.if1.false, ← m.months_before.ensures.1.0, c.before.if2.true) c.refused2.ensures
+    rw (m.before.if-year.false, ← m.months_before-before.ensures.1.0, c.before.if-month-before.true) c.refused-then-month-before.ensures
 
 -- Past both tests the code is a month's, and `skipped` is what it stands above the months before it.
 record Placed (months month skipped before of_year : ℕ) : Type 0 where
@@ -32,23 +32,23 @@ record Placed (months month skipped before of_year : ℕ) : Type 0 where
   place : of_year + skipped ≡ month
 
 placed :
-    (c : tie.After-pick) →
+    (c : tie.After-pick-skipped) →
     let m = c.before.before.before.before in
     let a = m.before.before.args in
-    Placed m.months_before.result.months a.month c.pick.result (months_before a.year) (months_of_year_before (leap a.year) a.month)
+    Placed m.months_before-before.result.months a.month c.pick-skipped.result (months_before a.year) (months_of_year_before (leap a.year) a.month)
 placed c =
     let m = c.before.before.before.before in
     let a = m.before.before.args in
-    let w = within 1 13 a.month (or_left _ _ c.before.before.if2.false) in
-    let k = rw m.months_before.ensures.1.0 at c.pick.ensures.0 in
+    let w = within 1 13 a.month (or_left _ _ c.before.before.if-month-before.false) in
+    let k = rw m.months_before-before.ensures.1.0 at c.pick-skipped.ensures.0 in
     record {
-      counted = m.months_before.ensures.0;
+      counted = m.months_before-before.ensures.0;
       few = omega arith;
       last = w.1;
       place = rw k (months_of_year (leap a.year) a.month w.0 w.1);
     }
 
-returns-3 : tie.Need-returns-3
+returns-3 : tie.Need-returns
 unfolding molad_answer no_month molad_day molad_time molad_parts
 returns-3 c =
     let d = c.before.before in
@@ -57,8 +57,8 @@ returns-3 c =
     let e = k.before.before in
     let m = e.before.before in
     let a = m.before.before.args in
-    let s : m.months_before.result.months + a.month - k.pick.result ≡ months_before a.year + months_of_year_before (leap a.year) a.month = omega arith in
-    rw (m.before.if1.false, ← m.months_before.ensures.1.0, e.if2.false, m.months_before.ensures.1.0, ← s, d.molad_after.ensures.0, d.molad_after.ensures.1.0)
+    let s : m.months_before-before.result.months + a.month - k.pick-skipped.result ≡ months_before a.year + months_of_year_before (leap a.year) a.month = omega arith in
+    rw (m.before.if-year.false, ← m.months_before-before.ensures.1.0, e.if-month-before.false, m.months_before-before.ensures.1.0, ← s, d.molad_after-m.ensures.0, d.molad_after-m.ensures.1.0)
 
 pub molad_spec : {M : Type 1} → statement M
 molad_spec =

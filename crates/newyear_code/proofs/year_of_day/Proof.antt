@@ -10,7 +10,7 @@ year_of_day_spec =
     tie.close
     (tie.spec
     (search rules)
-    (λ c. rw (← c.before.out_of_range.ensures, c.if1.true))
+    (λ c. rw (← c.before.out_of_range.ensures, c.if-out_of_range.true))
     (λ c κs.
-    let b = c.before in in_range b.before.args.day b.out_of_range.ensures c.if1.false)
-    (λ c. rw (← c.before.before.out_of_range.ensures, c.before.if1.false, c.year_of.ensures.year)))
+    let b = c.before in in_range b.before.args.day b.out_of_range.ensures c.if-out_of_range.false)
+    (λ c. rw (← c.before.before.out_of_range.ensures, c.before.if-out_of_range.false, c.year_of.ensures.year)))

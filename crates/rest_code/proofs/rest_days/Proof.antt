@@ -14,41 +14,41 @@ use Rattle.rest.proofs.Refused.{list_refused, list_passed}
 use Rattle.rest_code.proofs.rest_days.Statement.{statement}
 use Rattle.rest_code.proofs.rest_days.Tie as tie
 
-returns : tie.Need-returns
+returns : tie.Need-returns-then-refusal-ne0
 unfolding list_answer list_buffer
-returns c = let t = c.before in list_refused _ _ _ _ _ _ _ t.before.list_refusal.ensures t.if1.true c.no_list.ensures
+returns c = let t = c.before in list_refused _ _ _ _ _ _ _ t.before.list_refusal-refusal.ensures t.if-refusal-ne0.true c.no_list.ensures
 
 -- Wing and year are good, and so many entries are wanted.
 good :
-    (c : tie.After-rows) →
+    (c : tie.After-rows-wanted) →
     let a = c.before.before.before.before.args in
-    (out_of_wings a.wing ≡ false) × ((out_of_years a.year ≡ false) × (length (rest_days (table_of a.wing) a.year) ≡ c.rows.result))
+    (out_of_wings a.wing ≡ false) × ((out_of_years a.year ≡ false) × (length (rest_days (table_of a.wing) a.year) ≡ c.rows-wanted.result))
 good c =
     let t = c.before in
-    let p = list_passed _ _ _ t.before.list_refusal.ensures t.if1.false in
-    (p.0, (p.1, days_length _ _ ∙ sym c.rows.ensures))
+    let p = list_passed _ _ _ t.before.list_refusal-refusal.ensures t.if-refusal-ne0.false in
+    (p.0, (p.1, days_length _ _ ∙ sym c.rows-wanted.ensures))
 
-returns-2 : tie.Need-returns-2
+returns-2 : tie.Need-returns-then-out-wanted
 unfolding list_answer list_buffer
 returns-2 c =
     let g = good c.before in
-    let t = lt-ltb _ _ c.if2.true in
+    let t = lt-ltb _ _ c.if-out-wanted.true in
     (rw (g.0, g.1.0, g.1.1, t), rw (g.0, g.1.0, g.1.1, t))
 
-write_wing_requires : tie.Need-write-wing-requires
+write_wing_requires : tie.Need-write_wing-requires
 write_wing_requires c κs =
     let y = c.before in
     let t = y.before in
-    (spans_own _ _ y.year_span.ensures, rw (← t.before.rows.ensures) t.if2.false)
+    (spans_own _ _ y.year_span.ensures, rw (← t.before.rows-wanted.ensures) t.if-out-wanted.false)
 
-returns-3 : tie.Need-returns-3
+returns-3 : tie.Need-returns
 unfolding list_answer list_buffer
 returns-3 c =
     let d = c.before.before in
     let s = d.before.before in
     let t = s.before in
     let g = good t.before in
-    let l = le-ltb _ _ t.if2.false in (
+    let l = le-ltb _ _ t.if-out-wanted.false in (
       rw (g.0, g.1.0, g.1.1, l),
       rw (g.0, g.1.0, g.1.1, l) (rw s.year_span.ensures.year at d.write_wing.ensures),
     )

@@ -31,10 +31,10 @@ write_wing_spec =
     tie.close
     (tie.spec
     (search rules)
-    (λ c κs. let t = c.before.before in asked _ _ _ _ (first_table _ t.if1.true) t.before.before.requires)
+    (λ c κs. let t = c.before.before in asked _ _ _ _ (first_table _ t.if-wing-eq1.true) t.before.before.requires)
     (search rules)
-    (λ c κs. let t = c.before.before in asked _ _ _ _ (guest_table_lem _ t.if1.false) t.before.before.requires)
+    (λ c κs. let t = c.before.before in asked _ _ _ _ (guest_table_lem _ t.if-wing-eq1.false) t.before.before.requires)
     (search rules)
-    (λ c. let w = c.before.before in rw (first_table _ w.before.before.before.if1.true) w.write_days.ensures)
+    (λ c. let w = c.before.before in rw (first_table _ w.before.before.before.if-wing-eq1.true) w.write_days.ensures)
     (search rules)
-    (λ c. let w = c.before.before in rw (guest_table_lem _ w.before.before.before.if1.false) w.write-days2.ensures))
+    (λ c. let w = c.before.before in rw (guest_table_lem _ w.before.before.before.if-wing-eq1.false) w.write_days-else-wing-eq1.ensures))

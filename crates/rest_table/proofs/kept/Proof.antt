@@ -15,14 +15,14 @@ both : (wing row : ℕ) → elem row rest_table ≡ true → elem row (table_of 
 unfolding each_of
 both wing row e = of_both (λ table. elem row table ≡ true) e (of rest_table (λ r. elem r guest_table) refl row e) wing
 
-returns : tie.Need-returns
-returns c = let a = c.before in sym (both _ _ (sym a.among.ensures ∙ c.if1.true))
+returns : tie.Need-returns-then-among
+returns c = let a = c.before in sym (both _ _ (sym a.among.ensures ∙ c.if-among.true))
 
-returns-2 : tie.Need-returns-2
-returns-2 c = let t = c.before in rw (first_table _ c.if2.true) (sym (sym t.before.among.ensures ∙ t.if1.false))
+returns-2 : tie.Need-returns-then-wing-eq1
+returns-2 c = let t = c.before in rw (first_table _ c.if-wing-eq1.true) (sym (sym t.before.among.ensures ∙ t.if-among.false))
 
-returns-3 : tie.Need-returns-3
-returns-3 c = rw (guest_table_lem _ c.before.before.if2.false) c.among2.ensures
+returns-3 : tie.Need-returns
+returns-3 c = rw (guest_table_lem _ c.before.before.if-wing-eq1.false) c.among-2.ensures
 
 pub kept_spec : {M : Type 1} → statement M
 kept_spec =

@@ -8,8 +8,8 @@ rest_on_spec =
     tie.close
     (tie.spec
     (search rules)
-    (λ c. rw (eq-eqb _ _ c.if1.true))
+    (λ c. rw (eq-eqb _ _ c.if-weekday-date-eq0.true))
     (search rules)
     (search rules)
     (search rules)
-    (λ c. rw (ne_eqb _ _ c.before.before.before.if1.false) c.kept.ensures))
+    (λ c. rw (ne_eqb _ _ c.before.before.before.if-weekday-date-eq0.false) c.kept.ensures))

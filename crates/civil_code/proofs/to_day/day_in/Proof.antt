@@ -15,17 +15,17 @@ use Rattle.civil.proofs.MonthStarts.{next_month}
 use Rattle.civil_code.proofs.to_day.day_in.Statement.{statement}
 use Rattle.civil_code.proofs.to_day.day_in.Tie as tie
 
-a_year : (c : tie.Else2) → eqb c.before.before.before.args.year.number 0 ≡ false
-a_year c = ne_eqb _ _ c.before.if1.false
+a_year : (c : tie.Else-month) → eqb c.before.before.before.args.year.number 0 ≡ false
+a_year c = ne_eqb _ _ c.before.if-year-eq0.false
 
-a_month : (c : tie.Else2) → outside 1 12 c.before.before.before.args.month ≡ false
-a_month c = c.if2.false
+a_month : (c : tie.Else-month) → outside 1 12 c.before.before.before.args.month ≡ false
+a_month c = c.if-month.false
 
-month : (c : tie.Else2) → let m = c.before.before.before.args.month in (1 ≤ m) × (m ≤ 12)
+month : (c : tie.Else-month) → let m = c.before.before.before.args.month in (1 ≤ m) × (m ≤ 12)
 month c = within 1 12 c.before.before.before.args.month (a_month c)
 
-length : (c : tie.After-days-before2) → let a = c.before.before.before.before.before.args in
-    c.days-before2.result - c.before.days_before.result ≡ month_days a.year.leap a.month
+length : (c : tie.After-days_before) → let a = c.before.before.before.before.before.args in
+    c.days_before.result - c.before.days_before-before.result ≡ month_days a.year.leap a.month
 length c =
     let a = c.before.before.before.before.before.args in omega (arith, next_month a.year.leap a.month)
 
@@ -35,9 +35,9 @@ day_in_spec =
     tie.close
     (tie.spec
     (search rules)
-    (λ c. rw (c.no_day.ensures, c.before.if1.true))
+    (λ c. rw (c.no_day.ensures, c.before.if-year-eq0.true))
     (search rules)
-    (λ c. let t = c.before in rw (c.no-day2.ensures, ne_eqb _ _ t.before.if1.false, t.if2.true))
+    (λ c. let t = c.before in rw (c.no_day-then-month.ensures, ne_eqb _ _ t.before.if-year-eq0.false, t.if-month.true))
     (λ c κs. omega (arith, month c))
     (λ c. omega (arith, month c.before))
     (λ c κs. omega (arith, month c.before))
@@ -48,13 +48,13 @@ day_in_spec =
     let t = c.before in
     let b = t.before in
     let e = b.before.before in
-    rw (c.no-day3.ensures, a_year e, a_month e, ← length b, t.if3.true))
+    rw (c.no_day-then-day-length.ensures, a_year e, a_month e, ← length b, t.if-day-length.true))
     (search rules)
     (λ c.
     let b = c.before.before in
-    let n = b.days-before2.result - b.before.days_before.result in
+    let n = b.days_before.result - b.before.days_before-before.result in
     let a = b.before.before.before.before.before.args in
-    omega (arith, within 1 n a.day c.before.if3.false))
+    omega (arith, within 1 n a.day c.before.if-day-length.false))
     (search rules)
     (search rules)
     (λ c.
@@ -64,14 +64,14 @@ day_in_spec =
     let b = f.before in
     let e = b.before.before in
     rw (
-      c.no-day4.ensures,
+      c.no_day-then-out_of_range.ensures,
       a_year e,
       a_month e,
       ← length b,
-      f.if3.false,
-      ← b.before.days_before.ensures.0,
+      f.if-day-length.false,
+      ← b.before.days_before-before.ensures.0,
       ← o.out_of_range.ensures,
-      t.if4.true,
+      t.if-out_of_range.true,
     ))
     (λ c.
     let o = c.before in
@@ -82,8 +82,8 @@ day_in_spec =
       a_year e,
       a_month e,
       ← length b,
-      f.if3.false,
-      ← b.before.days_before.ensures.0,
+      f.if-day-length.false,
+      ← b.before.days_before-before.ensures.0,
       ← o.out_of_range.ensures,
-      c.if4.false,
+      c.if-out_of_range.false,
     )))

@@ -34,12 +34,12 @@ year_of_spec =
     let t = c.before in
     let j = t.before.args.day in
     rw c.pick.ensures.0
-    (in_next_year gregorian j (100 * century j + years j) (since_march j) (march_day t.before) _ t.if1.true
+    (in_next_year gregorian j (100 * century j + years j) (since_march j) (march_day t.before) _ t.if-since_march-ge-TO_JANUARY.true
     (next_rule (century j) (years j) (in_its_century j))))
     (λ c.
     let b = c.before in
     let t = b.before in
     let j = t.before.args.day in
-    rw (c.days_before.ensures.0, b.pick2.ensures.0)
+    rw (c.days_before.ensures.0, b.pick-else-since_march-ge-TO_JANUARY.ensures.0)
     (in_same_year gregorian j (100 * century j + years j) (since_march j) (march_day t.before) _ (omega arith)
     (sym (rule (century j) (years j) (in_its_century j))))))

@@ -24,7 +24,7 @@ year_of_spec =
     (search rules)
     (λ c.
     let j = c.before.args.day in
-    in_next_year julian j (years j) (since_march j) (march_day c.before) _ c.if1.true (last_of_four (years j)))
+    in_next_year julian j (years j) (since_march j) (march_day c.before) _ c.if-since_march-ge-TO_JANUARY.true (last_of_four (years j)))
     (λ c.
     let t = c.before in
     let j = t.before.args.day in

@@ -10,10 +10,10 @@ date_after_spec =
     tie.close
     (tie.spec
     (λ c κs. c.requires)
-    (λ c κs. (c.before.requires.0, c.month_of.ensures.1))
+    (λ c κs. (c.before.requires.0, c.month_of-month.ensures.1))
     (λ c.
     let s = c.before.before in
     let i = month_holds s.args.length s.args.after s.requires.0 s.requires.1 in
-    rw (c.days_before.ensures.0, c.before.month_of.ensures.0) i.from)
+    rw (c.days_before.ensures.0, c.before.month_of-month.ensures.0) i.from)
     (search rules)
-    (λ c. rw (c.days_before.ensures.0, c.before.month_of.ensures.0)))
+    (λ c. rw (c.days_before.ensures.0, c.before.month_of-month.ensures.0)))

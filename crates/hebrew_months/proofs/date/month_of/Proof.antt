@@ -27,5 +27,5 @@ month_of_spec =
     (λ c.
     let s = c.before.before.before.before in
     let i = month_from_lem s.args.length s.args.x s.requires.0 s.requires.1 in
-    let e : c.pick4.result ≡ month_from s.args.length s.args.x = cc in
+    let e : c.pick.result ≡ month_from s.args.length s.args.x = cc in
     (e ∙ sym (month_is _ _ _ i), rw e (i.low, i.high))))

@@ -11,9 +11,9 @@ next_date_spec =
     (search rules)
     (search rules)
     (search rules)
-    (λ c. let t = c.before.before in rw (← t.before.before.before.days_in.ensures, t.if1.true))
+    (λ c. let t = c.before.before in rw (← t.before.before.before.days_in.ensures, t.if-date-days_in.true))
     (search rules)
     (search rules)
     (search rules)
     (λ c.
-    let e = c.before.before.before.before in rw (← e.before.before.before.days_in.ensures, e.if1.false, c.pick.ensures.0)))
+    let e = c.before.before.before.before in rw (← e.before.before.before.days_in.ensures, e.if-date-days_in.false, c.pick.ensures.0)))

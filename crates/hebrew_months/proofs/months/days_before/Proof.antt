@@ -9,14 +9,14 @@ use Rattle.hebrew_months.proofs.months.days_before.Tie as tie
 
 -- The 30 days that keep the difference above zero are taken off last.
 worked :
-    (c : tie.After-pick3) →
+    (c : tie.After-pick) →
     let a = c.before.before.before.args in
-    (c.pick3.result ≡ days_before a.length a.month + 30) × (days_before a.length a.month + month_length a.length a.month ≤ 385)
+    (c.pick.result ≡ days_before a.length a.month + 30) × (days_before a.length a.month + month_length a.length a.month ≤ 385)
 unfolding before_from
 worked c =
     let s = c.before.before.before in
     let k = before_from_lem s.args.length s.args.month s.requires.0 s.requires.1.0 s.requires.1.1 in
-    let e : c.pick3.result ≡ before_from s.args.length s.args.month = rw (c.pick3.ensures.0, c.before.pick2.ensures.0, c.before.before.pick.ensures.0) in (e ∙ k.0, k.1)
+    let e : c.pick.result ≡ before_from s.args.length s.args.month = rw (c.pick.ensures.0, c.before.pick-short.ensures.0, c.before.before.pick-long.ensures.0) in (e ∙ k.0, k.1)
 
 pub days_before_spec : {M : Type 1} → statement M
 days_before_spec =

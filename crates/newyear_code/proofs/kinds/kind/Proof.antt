@@ -13,15 +13,15 @@ unfolding kind_answer kind_of
 kind_spec =
     tie.close
     (tie.spec
-    (λ c. rw c.if1.true)
-    (λ c κs. within 1 last_year c.before.args.year c.if1.false)
+    (λ c. rw c.if-year.true)
+    (λ c κs. within 1 last_year c.before.args.year c.if-year.false)
     (search rules)
     (λ c κs.
     let s = c.before in
-    let e = s.year_span.ensures in
-    (e.decreases, rw (c.weekday_of.ensures, e.begins, e.days) (kind_in s.before.before.args.year e.first (omega (arith, e.last)))))
+    let e = s.year_span-span.ensures in
+    (e.decreases, rw (c.weekday_of-weekday.ensures, e.begins, e.days) (kind_in s.before.before.args.year e.first (omega (arith, e.last)))))
     (λ c.
     let w = c.before in
     let s = w.before in
-    let e = s.year_span.ensures in
-    rw (s.before.if1.false, c.kind_number.ensures, w.weekday_of.ensures, e.begins, e.days)))
+    let e = s.year_span-span.ensures in
+    rw (s.before.if-year.false, c.kind_number.ensures, w.weekday_of-weekday.ensures, e.begins, e.days)))

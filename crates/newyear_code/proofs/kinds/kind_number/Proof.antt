@@ -39,7 +39,7 @@ known w len n k =
     let f = facts (tests w len) (kind_passes (λ w len. all (tests w len)) tests_all w len n k) in
     record { inside = ltb-true _ _ f.0; small = leb-true _ _ f.1.0; told = eqb-true _ _ f.1.1.0 }
 
-asked : (c : tie.After-pick3) → let a = c.before.before.before.args in Known a.weekday a.length
+asked : (c : tie.After-pick-second) → let a = c.before.before.before.args in Known a.weekday a.length
 asked c = let b = c.before.before.before in known b.args.weekday b.args.length b.requires.0 b.requires.1
 
 pub kind_number_spec : {M : Type 1} → statement M
@@ -55,4 +55,4 @@ kind_number_spec =
     (λ c. let k = asked c in search rules)
     (λ c.
     let p = c.before in
-    rw (c.pick3.ensures.0, p.pick2.ensures.0, p.before.pick.ensures.0) (asked c).told))
+    rw (c.pick-second.ensures.0, p.pick-before.ensures.0, p.before.pick-common.ensures.0) (asked c).told))

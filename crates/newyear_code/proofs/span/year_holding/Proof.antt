@@ -25,11 +25,11 @@ module _ (y : ℕ) where
   next true = refl
   next false = refl
 
-begins_requires : tie.Need-begins-requires
+begins_requires : tie.Need-begins-other-requires
 begins_requires c κs =
     let j = c.before.args.day in
     let i = held j (omega arith) (omega arith) in
-    rw c.year_of.ensures.other (in_new_years (year_of j) c.year_of.result.early (omega arith))
+    rw c.year_of-found.ensures.other (in_new_years (year_of j) c.year_of-found.result.early (omega arith))
 
 record Both (y begin end : ℕ) : Type 0 where
   low : 1 ≤ y
@@ -37,27 +37,27 @@ record Both (y begin end : ℕ) : Type 0 where
   from : begin ≡ new_year y
   to : end ≡ new_year (y + 1)
 
-both : (c : tie.After-pick2) → Both (year_of c.before.before.before.before.args.day) c.before.pick.result c.pick2.result
+both : (c : tie.After-pick) → Both (year_of c.before.before.before.before.args.day) c.before.pick-new_year.result c.pick.result
 both c =
     let p = c.before in
     let f = p.before.before in
-    let k = f.year_of.ensures in
-    let early = f.year_of.result.early in
+    let k = f.year_of-found.ensures in
+    let early = f.year_of-found.result.early in
     let j = f.before.args.day in
     let i = held j (omega arith) (omega arith) in
-    let o = p.before.begins.ensures.day in
+    let o = p.before.begins-other.ensures.day in
     record {
       low = i.low;
       high = i.high;
-      from = p.pick.ensures.0 ∙ rw (o, k.other, k.told) (own (year_of j) early);
-      to = c.pick2.ensures.0 ∙ rw (o, k.other, k.told) (next (year_of j) early);
+      from = p.pick-new_year.ensures.0 ∙ rw (o, k.other, k.told) (own (year_of j) early);
+      to = c.pick.ensures.0 ∙ rw (o, k.other, k.told) (next (year_of j) early);
     }
 
 returns : tie.Need-returns
 returns c =
     let f = c.before.before.before in
     let b = both c in
-    spans (year_of f.before.args.day) _ b.low b.high f.year_of.ensures.year b.from (rw (b.from, b.to))
+    spans (year_of f.before.args.day) _ b.low b.high f.year_of-found.ensures.year b.from (rw (b.from, b.to))
 
 pub year_holding_spec : {M : Type 1} → statement M
 year_holding_spec =

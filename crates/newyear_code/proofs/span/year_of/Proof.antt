@@ -10,12 +10,12 @@ returns : tie.Need-returns
 returns c =
     let b = c.before.before.before in
     let j = b.before.args.day in
-    let day = b.begins.ensures.day in
-    let t = tells j (omega arith) (omega arith) (ltb j b.begins.result.new_year) (rw day) in
+    let day = b.begins-t.ensures.day in
+    let t = tells j (omega arith) (omega arith) (ltb j b.begins-t.result.new_year) (rw day) in
     record {
       year = rw (← t.year) c.before.pick.ensures.0;
       told = day ∙ t.told;
-      other = rw (← t.other) c.pick2.ensures.0;
+      other = rw (← t.other) c.pick-2.ensures.0;
     }
 
 pub year_of_spec : {M : Type 1} → statement M

@@ -10,7 +10,7 @@ returns c =
     let n = c.before.before in
     let t = n.before in
     let h = t.before.args.year in
-    spans h _ (omega arith) (omega arith) (omega arith) t.begins.ensures.day (rw (t.begins.ensures.day, n.begins2.ensures.day))
+    spans h _ (omega arith) (omega arith) (omega arith) t.begins-first.ensures.day (rw (t.begins-first.ensures.day, n.begins-next.ensures.day))
 
 pub year_span_spec : {M : Type 1} → statement M
 year_span_spec =

@@ -17,10 +17,10 @@ use Rattle.newyear_code.proofs.tishri.begins.Statement.{statement}
 use Rattle.newyear_code.proofs.tishri.begins.Tie as tie
 
 -- The weekday goes on with the days, and round the week.
-moved : (c : tie.After-pick) → let d = c.before.before.before.before in c.pick.result ≡ weekday (d.before.before.molad_after.result.day + d.delay.result.delay) + 7
+moved : (c : tie.After-pick) → let d = c.before.before.before.before in c.pick.result ≡ weekday (d.before.before.molad_after-m.result.day + d.delay-late.result.delay-late) + 7
 moved c =
     let d = c.before.before.before.before in
-    let x = d.before.weekday_of.result + d.delay.result.delay in
+    let x = d.before.weekday_of-weekday.result + d.delay-late.result.delay-late in
     let e : c.pick.result ≡ cond (ltb 7 x) x (x + 7) = c.pick.ensures.0 in
     by_cases (dec_lt 7 x) (λ p. rw (e, lt-ltb 7 x p) (omega arith)) (λ p. rw (e, le-ltb 7 x (omega arith)) (omega arith))
 
@@ -30,18 +30,18 @@ record Known (h day time : ℕ) (r : Delayed) : Type 0 where
   at : time ≡ molad_time h 1
   late : r ≡ delay_in h
 
-known : (c : tie.After-delay) → let m = c.before.before in Known m.before.before.args.year m.molad_after.result.day m.molad_after.result.time c.delay.result
+known : (c : tie.After-delay-late) → let m = c.before.before in Known m.before.before.args.year m.molad_after-m.result.day m.molad_after-m.result.time c.delay-late.result
 unfolding delay_in
 known c =
     let m = c.before.before in
     let y = m.before.before.args.year in
-    let k = m.before.months_before.ensures in
-    let day : m.molad_after.result.day ≡ molad_day y 1 = rw (tishri_day y, ← k.0) m.molad_after.ensures.0 in
-    let time : m.molad_after.result.time ≡ molad_time y 1 = rw (tishri_time y, ← k.0) m.molad_after.ensures.1.0 in
+    let k = m.before.months_before-before.ensures in
+    let day : m.molad_after-m.result.day ≡ molad_day y 1 = rw (tishri_day y, ← k.0) m.molad_after-m.ensures.0 in
+    let time : m.molad_after-m.result.time ≡ molad_time y 1 = rw (tishri_time y, ← k.0) m.molad_after-m.ensures.1.0 in
     record {
       on = day;
       at = time;
-      late = rw (← day, ← time, ← c.before.weekday_of.ensures, ← k.1.0, ← k.1.1.0) c.delay.ensures.0;
+      late = rw (← day, ← time, ← c.before.weekday_of-weekday.ensures, ← k.1.0, ← k.1.1.0) c.delay-late.ensures.0;
     }
 
 returns : tie.Need-returns
@@ -51,7 +51,7 @@ returns c =
     let k = known d in
     let m = d.before.before in
     let y = m.before.before.args.year in
-    let begun : m.molad_after.result.day + d.delay.result.delay ≡ new_year y = rw (k.on, k.late) in
+    let begun : m.molad_after-m.result.day + d.delay-late.result.delay-late ≡ new_year y = rw (k.on, k.late) in
     record {
       day = begun;
       on = rw (moved c, begun) (omega arith);

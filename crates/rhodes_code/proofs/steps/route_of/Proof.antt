@@ -9,9 +9,9 @@ use Rattle.rhodes.proofs.Late.{noon_part_lem, noon_step}
 use Rattle.rhodes_code.proofs.steps.route_of.Statement.{statement}
 use Rattle.rhodes_code.proofs.steps.route_of.Tie as tie
 
-sub_part : tie.Need-overflow-sub-part
+sub_part : tie.Need-overflow_sub-part
 unfolding past_noon
-sub_part c = rw c.pick2.ensures.0 (noon_part_lem _).0
+sub_part c = rw c.pick.ensures.0 (noon_part_lem _).0
 
 returns : tie.Need-returns
 unfolding route_of place since_leap distance molad_august molad_part past_noon noon_august noon_part weekday_of_august delay_of rhodes_delay
@@ -19,12 +19,12 @@ returns c =
     let n = c.before.before in
     let h = n.before.args.year in
     let i = molad_august h in
-    let e = c.late_by.ensures in (
-      rw (e.0.0, e.1, c.before.pick2.ensures.0, n.pick.ensures.0, (noon_part_lem _).1),
+    let e = c.late_by-late.ensures in (
+      rw (e.0.0, e.1, c.before.pick.ensures.0, n.pick-august.ensures.0, (noon_part_lem _).1),
       (
-        rw n.pick.ensures.0 (noon_step h),
+        rw n.pick-august.ensures.0 (noon_step h),
         (
-          rw n.pick.ensures.0 (cond_le (past_noon (molad_part h)) (i + 1) i 71 (omega arith) (omega arith)),
+          rw n.pick-august.ensures.0 (cond_le (past_noon (molad_part h)) (i + 1) i 71 (omega arith) (omega arith)),
           e.0.1,
         ),
       ),
