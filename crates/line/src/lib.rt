@@ -4,6 +4,7 @@
 // is refused, and so is a line that is empty or missing. Whether the library covers the number is not asked here.
 //
 // Here stand the rules, in specs/, and what follows from them. The code is in `line_code`.
+#![tactic(auto)]
 
 #[repr(C)]
 #[derive(Drop)]
