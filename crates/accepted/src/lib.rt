@@ -6,3 +6,4 @@
 // exactly if a writer could have written them for that wing (theorem `accepted_exactly`).
 //
 // Here stand the rules, in specs/, and what follows from them. The code is in `accepted_code`.
+#![tactic(auto)]

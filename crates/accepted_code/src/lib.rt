@@ -1,5 +1,7 @@
 // The code that asks whether bytes are accepted for a wing's sheet. Every number that is read off a sheet is at most 4 bytes
 // long and is worked with in 64 bits, so that no sum and no product of them wraps.
+#![tactic(auto)]
+
 ghost use Rattle.std.specs.Prelude.{◌≡◌, ◌&&◌, ◌≤◌, eqb, length as list_length};
 ghost use Rattle.layout.specs.Layout.{rows_offset};
 ghost use Rattle.sheet.specs.Promises.{rows_told_before};

@@ -7,9 +7,10 @@
 //
 // Here stand the rules, in specs/, and what follows from them. Of the calendar they ask which stretch is next. The code
 // is in `charger_code`.
+#![tactic(auto)]
 
 // What is known of hall, bank and charger, in watt-hours.
-#[derive(Drop)]
+#[derive(Clone, Copy)]
 pub struct Figures {
     // What the hall draws in a day.
     pub draw: u64,

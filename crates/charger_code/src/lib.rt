@@ -1,5 +1,7 @@
 // The code that tells when charging must begin. Of the calendar it asks which stretch is next: once or, on a day of a stretch,
 // twice.
+#![tactic(auto)]
+
 ghost use Rattle.std.specs.Prelude.{◌≡◌, ◌≤◌};
 ghost use Rattle.days.specs.Range.{last_day};
 ghost use Rattle.charger.specs.Charging.{bad_figures, hours_needed};

@@ -7,6 +7,7 @@
 //
 // Here stand the rules, in specs/, and what follows from them. The code is in `civil_months`, `civil_years` and
 // `civil_code`.
+#![tactic(auto)]
 
 // The day number of a civil date, or why there is none.
 #[repr(C)]

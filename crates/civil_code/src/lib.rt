@@ -1,5 +1,7 @@
 // The code that answers which Julian or Gregorian date is a day, and which day is a date. Both calendars take the same
 // steps, once the year's own arithmetic is done.
+#![tactic(auto)]
+
 mod signed;
 mod to_date;
 mod to_day;

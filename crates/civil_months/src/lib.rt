@@ -4,6 +4,8 @@
 // 30 and 31 days, 153 in five months, and so again. Month m begins (153 (m − 3) + 2) / 5 days after 1 March, and the day
 // that is x days after it lies in month (5 x + 2) / 153 + 3. January and February stand before the count, 31 days apart,
 // and with them the leap day, so that it moves the count as a whole.
+#![tactic(auto)]
+
 ghost use Rattle.std.specs.Prelude.{◌≡◌, ◌≤◌, ◌<◌};
 ghost use Rattle.civil.specs.Calendar.{days_before, year_days};
 ghost use Rattle.civil.specs.Good.{IsMonthDay};

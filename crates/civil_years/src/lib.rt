@@ -3,6 +3,8 @@
 // Where the year of a day is looked for, years are begun in March, so that the leap day is the last of its year, and
 // centuries and years are split off by whole divisions: four Gregorian centuries have 146,097 days, and four Julian years
 // 1,461.
+#![tactic(auto)]
+
 pub mod gregorian;
 pub mod julian;
 

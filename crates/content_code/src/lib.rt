@@ -1,5 +1,7 @@
 // The code that compares a sheet with the calendar: every year's length and every row, with its wing byte, is worked out once
 // more and compared with the bytes where they lie. One year's stretches are worked out at a time; no sheet is written for it.
+#![tactic(auto)]
+
 ghost use Rattle.std.specs.Prelude.{◌≡◌, ◌+◌, ◌*◌, ◌/◌, ◌≤◌, length as list_length};
 ghost use Rattle.newyear_code.specs.Spans.{Spans};
 ghost use Rattle.layout.specs.Layout.{rows_offset};

@@ -2,6 +2,8 @@
 //
 // A day number is a Julian Day Number, J: the days of all calendars in one count. A Hebrew day begins at 18:00 and has the
 // J of the civil day that holds its daylight. The range is that of the Hebrew years 1 to 9999.
+#![tactic(auto)]
+
 ghost use Rattle.std.specs.Prelude.{◌≡◌, ◌<◌, ◌≤◌};
 ghost use Rattle.days.specs.Range.{out_of_range};
 ghost use Rattle.days.specs.Weekday.{weekday_answer};

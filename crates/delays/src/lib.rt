@@ -6,6 +6,7 @@
 // then weekday, the Tuesday rule, the Monday rule.
 //
 // Here stand the rules, in specs/, and what follows from them. The code is in `delays_code`.
+#![tactic(auto)]
 
 // The days from the molad to New Year, and their cause.
 #[derive(Drop)]

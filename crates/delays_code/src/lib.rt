@@ -1,4 +1,6 @@
 // The code that works out how many days after its molad a year begins, and why.
+#![tactic(auto)]
+
 ghost use Rattle.std.specs.Prelude.{◌≤◌};
 ghost use Rattle.delays_code.specs.Steps.{IsDelay};
 

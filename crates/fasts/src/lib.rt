@@ -4,6 +4,7 @@
 // month, so that its month code says which fast it is.
 //
 // Here stand the rules, in specs/, and what follows from them. The code is in `fasts_code`.
+#![tactic(auto)]
 
 // The fast ahead of a day: its month code, and the days left until it.
 #[derive(Drop)]

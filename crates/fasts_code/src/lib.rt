@@ -1,4 +1,6 @@
 // The code that lists a year's fasts, and finds the one ahead of a day.
+#![tactic(auto)]
+
 ghost use Rattle.std.specs.Prelude.{◌≡◌, true, ◌≤◌, length as list_length};
 ghost use Rattle.laws.specs.Runs.{each_of};
 ghost use Rattle.laws.specs.Buffer.{overwrite};

@@ -4,3 +4,4 @@
 // is the sheet's bytes, and they are no text: what is refused writes none of them, and says its number on standard error.
 //
 // Here stand the rules, in specs/, and what follows from them. The code is in `filing_code`.
+#![tactic(auto)]

@@ -6,6 +6,7 @@
 //
 // Here stand the rules, in specs/, and what follows from them. The code is in `hebrew_months` and
 // `hebrew_code`.
+#![tactic(auto)]
 
 #[repr(C)]
 #[derive(Drop)]
@@ -35,7 +36,7 @@ pub struct HebrewDate {
 }
 
 // A date of a year.
-#[derive(Drop)]
+#[derive(Clone, Copy)]
 pub struct YearDate {
     // Days after New Year.
     pub after: u64,

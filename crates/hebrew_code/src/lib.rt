@@ -1,4 +1,6 @@
 // The code that answers which Hebrew date is a day, and which day is a date.
+#![tactic(auto)]
+
 ghost use Rattle.std.specs.Prelude.{◌≡◌};
 ghost use Rattle.hebrew.specs.Answers.{month_answer, hebrew_day, hebrew_date};
 

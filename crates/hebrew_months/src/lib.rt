@@ -1,4 +1,6 @@
 // The months of a Hebrew year of a given length, and the dates of such a year by how many days after New Year they come.
+#![tactic(auto)]
+
 mod date;
 mod months;
 

@@ -1,5 +1,7 @@
 // The lemmas that several crates cite stand in specs/ and proofs/. The one piece of code chooses
 // one of two numbers that are both at hand, so that the compiler needs no branch.
+#![tactic(auto)]
+
 ghost use Rattle.std.specs.Prelude.{◌≡◌, cond, ◌+◌, ◌≤◌};
 
 // x where the test holds, else y.

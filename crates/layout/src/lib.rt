@@ -4,3 +4,4 @@
 // is made of a header of 16 bytes, index entries of 8 and rows of 6, each a few numbers one behind the other.
 //
 // Here stand the rules, in specs/, and what follows from them. The code is in `layout_code`.
+#![tactic(auto)]

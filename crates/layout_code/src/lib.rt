@@ -1,5 +1,7 @@
 // The code that stores a sheet's numbers into lent bytes and reads them. What is stored goes to a place that has room for it,
 // and what stands elsewhere stays; what is read is read from a place that has so many bytes.
+#![tactic(auto)]
+
 ghost use Rattle.std.specs.Prelude.{◌≡◌, ◌+◌, ◌≤◌, ◌<◌, length as list_length};
 ghost use Rattle.std.proofs.lemmas.List.Edits.{sets};
 ghost use Rattle.layout.specs.Layout.{little_endian, header_bytes, entry_bytes, row_bytes};

@@ -1,6 +1,7 @@
 // How a list is handed out in lent numbers: the answer tells how many there are, or how many are wanted.
 //
 // Here stand the rules, in specs/, and what follows from them. The crates whose lists they are have the code.
+#![tactic(auto)]
 
 #[repr(C)]
 #[derive(Drop)]

@@ -5,10 +5,11 @@
 //
 // Here stand the rules, in specs/, and what follows from them. The code, with the walker that keeps a lent sheet, is in
 // `loaded_code`.
+#![tactic(auto)]
 
 // A row: the first day and the length of a stretch, and its wing. Where no row is left `more` is 0, as is all else; else 1.
 #[repr(C)]
-#[derive(Drop)]
+#[derive(Clone, Copy)]
 pub struct Row {
     pub more: u64,
     pub first: u64,

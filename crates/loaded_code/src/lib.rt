@@ -1,4 +1,6 @@
 // The code that hands out what a loaded sheet holds. Nothing is taken out of bytes that are not accepted.
+#![tactic(auto)]
+
 mod walk;
 mod years;
 

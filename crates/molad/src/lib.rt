@@ -9,6 +9,7 @@
 // leaves tells whether the year, and the one before it, is leap.
 //
 // Here stand the rules, in specs/, and what follows from them. The code is in `molad_code`.
+#![tactic(auto)]
 
 #[repr(C)]
 #[derive(Drop)]

@@ -1,4 +1,6 @@
 // The code that answers when the molad of a month is, with the months before a year.
+#![tactic(auto)]
+
 mod months;
 mod parts;
 

@@ -6,6 +6,7 @@
 // weekday of every date.
 //
 // Here stand the rules, in specs/, and what follows from them. The code is in `newyear_code`.
+#![tactic(auto)]
 
 #[repr(C)]
 #[derive(Drop)]

@@ -1,5 +1,7 @@
 // The code that answers on which day a Hebrew year begins and why then, how long it is, of which kind, and which year holds
 // a day.
+#![tactic(auto)]
+
 mod kinds;
 mod span;
 mod tishri;

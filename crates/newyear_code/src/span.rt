@@ -7,7 +7,7 @@ ghost use Rattle.newyear_code.specs.Steps.{Finds};
 
 use crate::tishri::begins;
 
-#[derive(Drop)]
+#[derive(Clone, Copy)]
 pub struct Span {
     pub year: u64,
     pub new_year: u64,

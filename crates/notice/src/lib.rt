@@ -5,6 +5,7 @@
 // day falls on the civil evening before: the day shown is the one before, with 24 hours more. A minute has 18 parts.
 //
 // Here stand the rules, in specs/, and what follows from them. The code is in `notice_code`.
+#![tactic(auto)]
 
 #[repr(C)]
 #[derive(Drop)]

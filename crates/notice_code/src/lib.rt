@@ -1,4 +1,6 @@
 // The code that answers what the molad notice shows.
+#![tactic(auto)]
+
 ghost use Rattle.std.specs.Prelude.{◌≡◌};
 ghost use Rattle.notice.specs.Answers.{notice_answer};
 

@@ -6,6 +6,8 @@
 // goes into numbers that the caller lends, and a sheet into bytes: a pointer and then how many. A call that is lent a record
 // tells the refusal alone; so does a walk when it begins, and then a row or no more. `include/bournedrouth.h` says the same
 // to C.
+#![tactic(auto)]
+
 mod charging;
 mod civil_dates;
 mod fast_days;

@@ -5,9 +5,10 @@
 // from what it holds. What it then tells is what would be worked out afresh.
 //
 // Here stand the rules, in specs/, and what follows from them. The code is in `record_code`.
+#![tactic(auto)]
 
 #[repr(C)]
-#[derive(Drop)]
+#[derive(Clone, Copy)]
 pub struct DayRecord {
     pub day: u64,
     pub wing: u64,

@@ -4,6 +4,8 @@
 // Set, a day is worked out afresh. Moved, most of it stays: the date goes on within its month, the stretch is kept while it
 // answers for the day, and the fast while it is the next. What does not stay is worked out afresh. A record that none of these
 // calls made may hold any numbers; one that is counted with is looked at first.
+#![tactic(auto)]
+
 mod dates;
 mod next_fast;
 mod stretches;

@@ -1,4 +1,6 @@
 // The tables of rest days, one for each wing, and the rule that searches them.
+#![tactic(auto)]
+
 ghost use Rattle.std.specs.Prelude.{◌≡◌, ◌≤◌, length as list_length};
 ghost use Rattle.laws.specs.Runs.{elem};
 ghost use Rattle.rest.specs.Wings.{out_of_wings, table_of};

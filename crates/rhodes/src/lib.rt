@@ -6,3 +6,4 @@
 // and New Year's day of August, counted on past 31.
 //
 // Here stand her steps, in specs/, and that they lead to the counted New Year. The code is in `rhodes_code`.
+#![tactic(auto)]

@@ -1,4 +1,6 @@
 // The code that answers with New Year by Rhodes' closed formula, step by step as she has them.
+#![tactic(auto)]
+
 mod august;
 mod steps;
 

@@ -4,3 +4,4 @@
 // each stretch.
 //
 // Here stand the rules, in specs/, and what follows from them. The code is in `sheet_code`.
+#![tactic(auto)]

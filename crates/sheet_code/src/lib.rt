@@ -1,6 +1,8 @@
 // The code that writes the sheet of a wing's stretches. How many rows there are is told by the years themselves, so that each
 // year's stretches are worked out twice: first to count them, and so to know how many bytes are wanted, then to write them.
 // Nothing is written before it is known that all of it has room.
+#![tactic(auto)]
+
 ghost use Rattle.std.specs.Prelude.{◌≡◌, ◌≤◌};
 ghost use Rattle.sheet.specs.Sheet.{most_years};
 ghost use Rattle.sheet.specs.Answers.{ends_outside, wing_sheet, wing_sheet_buffer};

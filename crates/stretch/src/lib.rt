@@ -4,6 +4,7 @@
 // rest day and 1 Tishri always.
 //
 // Here stand the rules, in specs/, and what follows from them. The code is in `stretch_code`.
+#![tactic(auto)]
 
 #[repr(C)]
 #[derive(Drop)]

@@ -1,5 +1,7 @@
 // The code that answers which stretch of a wing's rest days is next. As no stretch crosses a New Year it works on the days
 // of one year: it walks through their dates from one to the next and asks each whether it is a rest day.
+#![tactic(auto)]
+
 mod runs;
 
 ghost use Rattle.std.specs.Prelude.{◌≡◌, ◌≤◌};

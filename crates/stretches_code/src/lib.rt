@@ -1,5 +1,7 @@
 // The code that answers which stretches of a wing's rest days a year has. No stretch crosses a New Year, so it walks through
 // the dates of the year from one to the next, and lists a run of rest days when it has ended.
+#![tactic(auto)]
+
 mod writing;
 
 ghost use Rattle.std.specs.Prelude.{◌≡◌, ◌≤◌, length as list_length};

@@ -4,3 +4,4 @@
 // the Gregorian date and the clock's time at the month's molad, and the parts. What is refused prints only its number.
 //
 // Here stand the rules, in specs/, and what follows from them. The code is in `wording_code`.
+#![tactic(auto)]
