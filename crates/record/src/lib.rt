@@ -37,7 +37,7 @@ pub struct Moved {
 }
 
 // What a record tells of a day by the year that holds it.
-#[derive(Drop)]
+#[derive(Clone, Copy)]
 pub struct Dated {
     pub year: u64,
     pub month: u64,

@@ -59,6 +59,7 @@ one_row false x y = none
 
 only_row : (f c x y : ℕ) → Listed f c (x ∷ y ∷ []) → (f ≡ x) × (c ≡ y)
 only_row f c x y here = (refl, refl)
+only_row f c x y (there r) = elim r [ ]
 
 -- Each first day lies below n.
 abbrev Below : ℕ → List ℕ → Type 0

@@ -19,74 +19,74 @@ abbrev figures_in : tie.Start → Figures
 figures_in c = let a = c.args in record { draw = a.draw; capacity = a.capacity; rate = a.rate; charge = a.charge }
 
 -- The wing is 1 or 2, the day in range, and the figures are good.
-named : (c : tie.Else1) → out_of_wings c.before.before.args.wing ≡ false
-named c = sym c.before.out_of_wings.ensures ∙ c.if1.false
+named : (c : tie.Else-out_of_wings) → out_of_wings c.before.before.args.wing ≡ false
+named c = sym c.before.out_of_wings.ensures ∙ c.if-out_of_wings.false
 
-ranged : (c : tie.Else2) → out_of_range c.before.before.before.before.args.day ≡ false
-ranged c = sym c.before.out_of_range.ensures ∙ c.if2.false
+ranged : (c : tie.Else-out_of_range) → out_of_range c.before.before.before.before.args.day ≡ false
+ranged c = sym c.before.out_of_range.ensures ∙ c.if-out_of_range.false
 
-abbrev start : tie.Else3 → tie.Start
+abbrev start : tie.Else-bad_figures → tie.Start
 start c = c.before.before.before.before.before.before
 
-passed : (c : tie.Else3) → bad_figures (figures_in (start c)) ≡ false
-passed c = sym c.before.bad_figures.ensures ∙ c.if3.false
+passed : (c : tie.Else-bad_figures) → bad_figures (figures_in (start c)) ≡ false
+passed c = sym c.before.bad_figures.ensures ∙ c.if-bad_figures.false
 
-good : (c : tie.Else3) → GoodFigures (figures_in (start c))
+good : (c : tie.Else-bad_figures) → GoodFigures (figures_in (start c))
 good c = (figures_caught (figures_in (start c))).passes (passed c)
 
 -- So the answer goes by the stretches.
 by_stretches :
-    (c : tie.Else3) → let wing = (start c).args.wing in
+    (c : tie.Else-bad_figures) → let wing = (start c).args.wing in
     let j = (start c).args.day in
     let x = figures_in (start c) in charge_answer wing j x ≡ planned (earliest_day wing j) (chosen wing j) x
 by_stretches c = rw (named c.before.before.before.before, ranged c.before.before, passed c)
 
-returns-2 : tie.Need-returns-2
+returns-2 : tie.Need-returns-then-out_of_range
 returns-2 c =
     let t = c.before in
-    let r = t.before in rw (named r.before, ← r.out_of_range.ensures, t.if2.true) c.refused2.ensures
+    let r = t.before in rw (named r.before, ← r.out_of_range.ensures, t.if-out_of_range.true) c.refused-then-out_of_range.ensures
 
-returns-3 : tie.Need-returns-3
+returns-3 : tie.Need-returns-then-bad_figures
 returns-3 c =
     let t = c.before in
     let b = t.before in
     let e = b.before in
-    rw (named e.before.before, ranged e, ← b.bad_figures.ensures, t.if3.true) c.refused3.ensures
+    rw (named e.before.before, ranged e, ← b.bad_figures.ensures, t.if-bad_figures.true) c.refused-then-bad_figures.ensures
 
 -- What the first stretch tells.
-bounds : (c : tie.After-stretch) → let s = c.stretch.result in (s.first + s.length ≤ last_day) × (s.length ≤ 3)
-bounds c = let a = (start c.before).args in rw c.stretch.ensures (in_bounds a.wing a.day)
+bounds : (c : tie.After-stretch-ahead) → let s = c.stretch-ahead.result in (s.first + s.length ≤ last_day) × (s.length ≤ 3)
+bounds c = let a = (start c.before).args in rw c.stretch-ahead.ensures (in_bounds a.wing a.day)
 
 earliest :
-    (c : tie.After-stretch) (b : Bool) → let s = c.stretch.result in
+    (c : tie.After-stretch-ahead) (b : Bool) → let s = c.stretch-ahead.result in
     let a = (start c.before).args in holding s a.day ≡ b → earliest_day a.wing a.day ≡ cond b (s.first + s.length) a.day
-earliest c b e = let a = (start c.before).args in rw c.stretch.ensures (earliest_by a.wing a.day b (rw (← c.stretch.ensures) e))
+earliest c b e = let a = (start c.before).args in rw c.stretch-ahead.ensures (earliest_by a.wing a.day b (rw (← c.stretch-ahead.ensures) e))
 
-add_from : tie.Need-overflow-add-from
+add_from : tie.Need-overflow_add-from
 add_from c = let l = (bounds c.before.before.before.before).0 in search rules
 
 planned_requires : tie.Need-planned-requires
 planned_requires c κs =
     let s = c.before.before.before.before.before in
-    let r = s.stretch.result in
+    let r = s.stretch-ahead.result in
     let b = in_bounds (start s.before).args.wing (r.first + r.length) in
-    (good s.before, ((bounds s).0, rw c.stretch2.ensures (omega (arith, b.0), b.1)))
+    (good s.before, ((bounds s).0, rw c.stretch.ensures (omega (arith, b.0), b.1)))
 
-returns-4 : tie.Need-returns-4
+returns-4 : tie.Need-returns-then-ahead-day
 returns-4 c =
     let n = c.before in
     let s = n.before.before.before.before.before in
-    rw (by_stretches s.before, earliest s true n.before.before.if4.true) (rw n.stretch2.ensures at c.planned.ensures)
+    rw (by_stretches s.before, earliest s true n.before.before.if-ahead-day.true) (rw n.stretch.ensures at c.planned.ensures)
 
 planned_requires_2 : tie.Need-planned-requires-2
 planned_requires_2 c κs =
     let s = c.before.before.before in
     let b = bounds s in (good s.before, ((within first_day last_day _ (ranged s.before.before.before)).1, (omega (arith, b.0), b.1)))
 
-returns-5 : tie.Need-returns-5
+returns-5 : tie.Need-returns
 returns-5 c =
     let s = c.before.before.before.before in
-    rw (by_stretches s.before, earliest s false c.before.if4.false) (rw s.stretch.ensures at c.planned2.ensures)
+    rw (by_stretches s.before, earliest s false c.before.if-ahead-day.false) (rw s.stretch-ahead.ensures at c.planned-2.ensures)
 
 pub charge_start_spec : {M : Type 1} → statement M
 charge_start_spec =
@@ -94,7 +94,7 @@ charge_start_spec =
     (tie.spec
     (search rules)
     (search rules)
-    (λ c. let t = c.before in rw (← t.before.out_of_wings.ensures, t.if1.true) c.refused.ensures)
+    (λ c. let t = c.before in rw (← t.before.out_of_wings.ensures, t.if-out_of_wings.true) c.refused.ensures)
     (search rules)
     (search rules)
     returns-2

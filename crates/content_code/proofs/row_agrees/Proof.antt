@@ -5,7 +5,7 @@ use Rattle.content_code.proofs.row_agrees.Tie as tie
 
 returns : tie.Need-returns
 unfolding row_agrees
-returns c = rw (c.before.before.four_at.ensures.0, c.before.one_at.ensures.0, c.one-at2.ensures.0)
+returns c = rw (c.before.before.four_at.ensures.0, c.before.one_at.ensures.0, c.one_at-2.ensures.0)
 
 pub row_agrees_spec : {M : Type 1} → statement M
 row_agrees_spec =

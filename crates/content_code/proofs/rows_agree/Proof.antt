@@ -10,27 +10,27 @@ use Rattle.content_code.proofs.Compared.{row_more}
 use Rattle.content_code.proofs.rows_agree.Statement.{statement}
 use Rattle.content_code.proofs.rows_agree.Tie as tie
 
-abbrev invariant-loop : tie.invariant-loop
+abbrev invariant-loop : tie.invariant-loop-k
 invariant-loop wing sheet at list agree₀ k₀ agree k = (k ≤ count list / 2) × (agree ≡ rows_agree wing sheet at list k)
 
-abbrev decreases-loop : tie.decreases-loop
+abbrev decreases-loop : tie.decreases-loop-k
 decreases-loop wing sheet at list agree₀ k₀ agree k = count list / 2 - k
 
-loop_holds : tie.Need-loop-init invariant-loop decreases-loop
+loop_holds : tie.Need-loop-k-init invariant-loop decreases-loop
 unfolding rows_agree every
 loop_holds c = (omega arith, refl)
 
-loop-again : tie.Need-loop-preserved invariant-loop decreases-loop
+loop-again : tie.Need-loop-k-preserved invariant-loop decreases-loop
 loop-again c =
     let l = c.before.before.before.before in
     let a = l.before.before.before.args in
-    (omega arith, rw (row_more a.wing a.sheet.now a.at a.list.now l.loop.k, l.loop.invariant.1, c.row_agrees.ensures))
+    (omega arith, rw (row_more a.wing a.sheet.now a.at a.list.now l.loop-k.k, l.loop-k.invariant.1, c.row_agrees-agree.ensures))
 
 returns : tie.Need-returns invariant-loop decreases-loop
 returns c =
     let l = c.before in
-    let q : l.loop.k ≡ count l.before.before.before.args.list.now / 2 = omega arith in
-    rw q at l.loop.invariant.1
+    let q : l.loop-k.k ≡ count l.before.before.before.args.list.now / 2 = omega arith in
+    rw q at l.loop-k.invariant.1
 
 pub rows_agree_spec : {M : Type 1} → statement M
 rows_agree_spec =

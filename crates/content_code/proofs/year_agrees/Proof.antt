@@ -18,53 +18,53 @@ use Rattle.content_code.proofs.year_agrees.Statement.{statement}
 use Rattle.content_code.proofs.year_agrees.Tie as tie
 
 -- What the first test says of the year's length.
-long : (c : tie.Else1) → let a = c.before.before.before.before.args in eqb (length_told a.sheet.now a.i) (year_length a.span.year) ≡ true
+long : (c : tie.Else-two_at-span) → let a = c.before.before.before.before.args in eqb (length_told a.sheet.now a.i) (year_length a.span.year) ≡ true
 unfolding length_told
-long c = let t = c.before.before in eq-eqb _ _ (sym t.two_at.ensures.0 ∙ c.if1.false ∙ t.before.before.requires.0.days)
+long c = let t = c.before.before in eq-eqb _ _ (sym t.two_at.ensures.0 ∙ c.if-two_at-span.false ∙ t.before.before.requires.0.days)
 
-returns : tie.Need-returns
+returns : tie.Need-returns-then-two_at-span
 unfolding year_agrees length_told
 returns c =
     let t = c.before.before in
     let a = t.before.before.args in
-    rw (ne_eqb (length_told a.sheet.now a.i) (year_length a.span.year) (λ e. c.if1.true (t.two_at.ensures.0 ∙ e ∙ sym t.before.before.requires.0.days)))
+    rw (ne_eqb (length_told a.sheet.now a.i) (year_length a.span.year) (λ e. c.if-two_at-span.true (t.two_at.ensures.0 ∙ e ∙ sym t.before.before.requires.0.days)))
 
 -- What is worked out is the year's list.
 listed :
-    (c : tie.After-year-rows) →
+    (c : tie.After-year_rows-entries) →
     let a = c.before.before.before.before.before.before.args in
     let list = stretch_rows (table_of a.wing) a.span.year in
-    (c.year_rows.result ≡ count list) × (take c.year_rows.result c.year_rows.new.1.1.0 ≡ list)
+    (c.year_rows-entries.result ≡ count list) × (take c.year_rows-entries.result c.year_rows-entries.new.1.1.0 ≡ list)
 unfolding overwrite
 listed c =
     let a = c.before.before.before.before.before.before.args in
-    let n = c.year_rows.ensures in
+    let n = c.year_rows-entries.ensures in
     (n.0, rw (n.1.1, n.0) (take-append_seam (stretch_rows (table_of a.wing) a.span.year) _))
 
-returns-2 : tie.Need-returns-2
+returns-2 : tie.Need-returns-then-two_at-entries
 unfolding year_agrees rows_told rows_in
 returns-2 c =
     let t = c.before in
     let y = t.before.before in
     let e1 = y.before.before in
     let a = e1.before.before.before.before.args in
-    rw (long e1, ne_eqb (rows_told a.sheet.now a.i) (rows_in a.wing a.span.year) (λ e. c.if2.true (t.two-at2.ensures.0 ∙ e ∙ rw (← (listed y).0))))
+    rw (long e1, ne_eqb (rows_told a.sheet.now a.i) (rows_in a.wing a.span.year) (λ e. c.if-two_at-entries.true (t.two_at-2.ensures.0 ∙ e ∙ rw (← (listed y).0))))
 
 -- What the second test says of its rows.
-many : (c : tie.Else2) → let a = c.before.before.before.before.before.before.before.before.before.args in rows_told a.sheet.now a.i ≡ rows_in a.wing a.span.year
+many : (c : tie.Else-two_at-entries) → let a = c.before.before.before.before.before.before.before.before.before.args in rows_told a.sheet.now a.i ≡ rows_in a.wing a.span.year
 unfolding rows_told rows_in
-many c = let t = c.before in rw (← (listed t.before.before).0) (sym t.two-at2.ensures.0 ∙ c.if2.false)
+many c = let t = c.before in rw (← (listed t.before.before).0) (sym t.two_at-2.ensures.0 ∙ c.if-two_at-entries.false)
 
-rows_agree_requires : tie.Need-rows-agree-requires
+rows_agree_requires : tie.Need-rows_agree-requires
 unfolding rows_in offset_told
 rows_agree_requires c κs =
     let f = c.before in
     let y = f.before.before.before.before in
     let w = listed y in
     let s = y.before.before.before.before.before.before in
-    rw w.1 (omega (arith, w.0, y.year_rows.ensures.1.0), omega (arith, s.requires.1.1, many f.before, f.four_at.ensures.0))
+    rw w.1 (omega (arith, w.0, y.year_rows-entries.ensures.1.0), omega (arith, s.requires.1.1, many f.before, f.four_at.ensures.0))
 
-returns-3 : tie.Need-returns-3
+returns-3 : tie.Need-returns
 unfolding year_agrees rows_in offset_told
 returns-3 c =
     let f = c.before.before in

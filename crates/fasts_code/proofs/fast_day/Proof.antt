@@ -9,14 +9,14 @@ use Rattle.fasts_code.proofs.fast_day.Tie as tie
 good : (c : tie.Start) → GoodRow c.args.span.length c.args.row
 good c = good_row _ _ c.requires.1
 
-kept_on_requires : tie.Need-kept-on-requires
-kept_on_requires c κs = let s = c.before.before in let g = good s in omega (arith, s.requires.0.from, s.requires.0.small, c.before.days_before.ensures.1)
+kept_on_requires : tie.Need-kept_on-requires
+kept_on_requires c κs = let s = c.before.before in let g = good s in omega (arith, s.requires.0.from, s.requires.0.small, c.before.days_before-before.ensures.1)
 
 returns : tie.Need-returns
 unfolding fast_day day_number
 returns c =
     let d = c.before.before in
-    let e = d.before.requires.0 in rw (← e.begins, ← e.days, ← d.days_before.ensures.0) c.kept_on.ensures
+    let e = d.before.requires.0 in rw (← e.begins, ← e.days, ← d.days_before-before.ensures.0) c.kept_on.ensures
 
 pub fast_day_spec : {M : Type 1} → statement M
 fast_day_spec =

@@ -14,47 +14,47 @@ use Rattle.fasts.specs.Ahead.{ahead_in}
 use Rattle.fasts_code.proofs.first_from.Statement.{statement}
 use Rattle.fasts_code.proofs.first_from.Tie as tie
 
-abbrev invariant-loop : tie.invariant-loop
+abbrev invariant-loop : tie.invariant-loop-i
 invariant-loop table day span i₀ i = (i ≤ count table) × (ahead_in (fast_day span.year) day table ≡ ahead_in (fast_day span.year) day (drop i table))
 
-abbrev decreases-loop : tie.decreases-loop
+abbrev decreases-loop : tie.decreases-loop-i
 decreases-loop table day span i₀ i = count table - i
 
-loop_holds : tie.Need-loop-init invariant-loop decreases-loop
+loop_holds : tie.Need-loop-i-init invariant-loop decreases-loop
 loop_holds c = (search rules, refl)
 
-fast_day_requires : tie.Need-fast-day-requires invariant-loop decreases-loop
+fast_day_requires : tie.Need-fast_day-kept-requires invariant-loop decreases-loop
 fast_day_requires c κs =
     let l = c.before.before in
     let s = l.before.before in
-    let a = s.args in (s.requires.0, each_at a.table.now (row_good a.span.length) s.requires.1 l.loop.i (omega arith))
+    let a = s.args in (s.requires.0, each_at a.table.now (row_good a.span.length) s.requires.1 l.loop-i.i (omega arith))
 
-returns : tie.Need-returns invariant-loop decreases-loop
+returns : tie.Need-returns-then-day-kept invariant-loop decreases-loop
 unfolding ahead_in
 returns c =
     let f = c.before in
     let l = f.before.before.before in
     let a = l.before.before.args in
-    let h : l.loop.i < count a.table.now = omega arith in
-    rw (l.loop.invariant.1, drop-cons a.table.now l.loop.i 0, ← f.fast_day.ensures, le-leb a.day f.fast_day.result (omega arith))
+    let h : l.loop-i.i < count a.table.now = omega arith in
+    rw (l.loop-i.invariant.1, drop-cons a.table.now l.loop-i.i 0, ← f.fast_day-kept.ensures, le-leb a.day f.fast_day-kept.result (omega arith))
 
-loop-again : tie.Need-loop-preserved invariant-loop decreases-loop
+loop-again : tie.Need-loop-i-preserved invariant-loop decreases-loop
 unfolding ahead_in
 loop-again c =
     let f = c.before in
     let l = f.before.before.before in
     let a = l.before.before.args in
-    let h : l.loop.i < count a.table.now = omega arith in (
+    let h : l.loop-i.i < count a.table.now = omega arith in (
       search rules,
-      l.loop.invariant.1 ∙ rw (drop-cons a.table.now l.loop.i 0, ← f.fast_day.ensures, lt-leb a.day f.fast_day.result (omega arith), add-one),
+      l.loop-i.invariant.1 ∙ rw (drop-cons a.table.now l.loop-i.i 0, ← f.fast_day-kept.ensures, lt-leb a.day f.fast_day-kept.result (omega arith), add-one),
     )
 
-returns-2 : tie.Need-returns-2 invariant-loop decreases-loop
+returns-2 : tie.Need-returns invariant-loop decreases-loop
 unfolding ahead_in
 returns-2 c =
     let l = c.before in
     let a = l.before.before.args in
-    let e : l.loop.i ≡ count a.table.now = omega arith in rw (l.loop.invariant.1, e, drop-length)
+    let e : l.loop-i.i ≡ count a.table.now = omega arith in rw (l.loop-i.invariant.1, e, drop-length)
 
 pub first_from_spec : {M : Type 1} → statement M
 first_from_spec =

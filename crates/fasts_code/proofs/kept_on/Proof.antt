@@ -18,24 +18,24 @@ sundays : (code : ℕ) → eqb code 1 || eqb code 11 || eqb code 12 ≡ elem cod
 unfolding among
 sundays code = among_is code (1 ∷ 11 ∷ 12 ∷ [])
 
-saturday : (c : tie.Else1) → weekday c.before.before.args.day ≡ 7
-saturday c = sym c.before.weekday_of.ensures ∙ c.if1.false
+saturday : (c : tie.Else-weekday_of-ne7) → weekday c.before.before.args.day ≡ 7
+saturday c = sym c.before.weekday_of.ensures ∙ c.if-weekday_of-ne7.false
 
-returns-4 : tie.Need-returns-4
+returns-4 : tie.Need-returns
 unfolding kept_on
 returns-4 c =
     let e = c.before in
     let a = e.before.before.before.args in
-    rw (eq-eqb _ 7 (saturday e.before), sym (sundays a.month) ∙ e.if2.false, ne_eqb a.month 7 c.if3.false)
+    rw (eq-eqb _ 7 (saturday e.before), sym (sundays a.month) ∙ e.if-month.false, ne_eqb a.month 7 c.if-month-eq7.false)
 
 pub kept_on_spec : {M : Type 1} → statement M
 kept_on_spec =
     tie.close
     (tie.spec
     (search rules)
-    (λ c. sym (kept_own _ _ (λ e. c.if1.true (c.before.weekday_of.ensures ∙ e))))
+    (λ c. sym (kept_own _ _ (λ e. c.if-weekday_of-ne7.true (c.before.weekday_of.ensures ∙ e))))
     (search rules)
-    (λ c. sym (kept_sunday _ _ (sym (sundays c.before.before.before.args.month) ∙ c.if2.true) (saturday c.before)))
+    (λ c. sym (kept_sunday _ _ (sym (sundays c.before.before.before.args.month) ∙ c.if-month.true) (saturday c.before)))
     (search rules)
-    (λ c. rw c.if3.true (sym (kept_thursday _ (saturday c.before.before))))
+    (λ c. rw c.if-month-eq7.true (sym (kept_thursday _ (saturday c.before.before))))
     returns-4)

@@ -12,7 +12,7 @@ returns c =
     let y = z.before.before.before.before in
     let x = y.before.before.before.before in
     let a = x.before.before.before.args in
-    rw (z.put_one-2.ensures, y.put_one.ensures, x.put_four.ensures) (sets_three a.out-1.now (little_endian 4 a.first) (little_endian 1 a.days) (little_endian 1 a.wing) a.at _ _ (omega arith) (omega arith))
+    rw (z.put_one-2.ensures, y.put_one.ensures, x.put_four.ensures) (sets_three a.out.now (little_endian 4 a.first) (little_endian 1 a.days) (little_endian 1 a.wing) a.at _ _ (omega arith) (omega arith))
 
 pub put_row_spec : {M : Type 1} → statement M
 put_row_spec = tie.close (tie.spec (search rules) (search rules) (search rules) (search rules) (search rules) (search rules) returns)

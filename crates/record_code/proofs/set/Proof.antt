@@ -10,11 +10,11 @@ use Rattle.record_code.proofs.set.Statement.{statement}
 use Rattle.record_code.proofs.set.Tie as tie
 
 -- The wing is 1 or 2.
-named : (c : tie.Else1) → out_of_wings c.before.before.args.wing ≡ false
-named c = sym c.before.out_of_wings.ensures ∙ c.if1.false
+named : (c : tie.Else-out_of_wings) → out_of_wings c.before.before.args.wing ≡ false
+named c = sym c.before.out_of_wings.ensures ∙ c.if-out_of_wings.false
 
-ranged : (c : tie.Else2) → InRange c.before.before.before.before.args.day
-ranged c = in_range _ c.before.out_of_range.ensures c.if2.false
+ranged : (c : tie.Else-out_of_range) → InRange c.before.before.before.before.args.day
+ranged c = in_range _ c.before.out_of_range.ensures c.if-out_of_range.false
 
 -- The day is worked out afresh.
 worked : (c : tie.After-joined) → let a = c.before.before.before.before.before.before.before.before.before.args in c.joined.result ≡ afresh a.wing a.day
@@ -24,14 +24,14 @@ worked c =
     let s = f.before in
     let d = s.before in
     let w = named d.before.before.before.before in
-    rw (w, ← d.dated_in.ensures.0, ← s.stretch_in.ensures, ← f.ahead_in.ensures) c.joined.ensures
+    rw (w, ← d.dated_in-x.ensures.0, ← s.stretch_in-s.ensures, ← f.ahead_in.ensures) c.joined.ensures
 
-returns-3 : tie.Need-returns-3
+returns-3 : tie.Need-returns
 unfolding set_to
 returns-3 c =
     let j = c.before in
     let i = j.before.before.before.before.before in
-    let o = i.before in rw (named o.before, ← o.out_of_range.ensures, i.if2.false, ← worked j) c.leaves3.ensures
+    let o = i.before in rw (named o.before, ← o.out_of_range.ensures, i.if-out_of_range.false, ← worked j) c.leaves-2.ensures
 
 pub set_spec : {M : Type 1} → statement M
 unfolding set_to
@@ -40,16 +40,16 @@ set_spec =
     (tie.spec
     (search rules)
     (search rules)
-    (λ c. let t = c.before in rw (← t.before.out_of_wings.ensures, t.if1.true) c.leaves.ensures)
+    (λ c. let t = c.before in rw (← t.before.out_of_wings.ensures, t.if-out_of_wings.true) c.leaves.ensures)
     (search rules)
     (search rules)
     (λ c.
     let t = c.before in
-    let r = t.before in rw (named r.before, ← r.out_of_range.ensures, t.if2.true) c.leaves2.ensures)
+    let r = t.before in rw (named r.before, ← r.out_of_range.ensures, t.if-out_of_range.true) c.leaves-then-out_of_range.ensures)
     (λ c κs. ranged c)
-    (λ c κs. (ranged c.before, c.year_holding.ensures))
-    (λ c κs. let e = c.before.year_holding.ensures in (ranged c.before.before, (e.begins, e.days)))
-    (λ c κs. (ranged c.before.before.before, c.before.before.year_holding.ensures))
+    (λ c κs. (ranged c.before, c.year_holding-span.ensures))
+    (λ c κs. let e = c.before.year_holding-span.ensures in (ranged c.before.before, (e.begins, e.days)))
+    (λ c κs. (ranged c.before.before.before, c.before.before.year_holding-span.ensures))
     (search rules)
     (search rules)
     returns-3)

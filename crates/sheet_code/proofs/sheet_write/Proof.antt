@@ -17,34 +17,34 @@ use Rattle.sheet.proofs.Years.{all_written}
 use Rattle.sheet_code.proofs.sheet_write.Statement.{statement}
 use Rattle.sheet_code.proofs.sheet_write.Tie as tie
 
-returns : tie.Need-returns
+returns : tie.Need-returns-then-out_of_wings
 returns c =
     let t = c.before in
-    let w = sym t.before.out_of_wings.ensures ∙ t.if1.true in
+    let w = sym t.before.out_of_wings.ensures ∙ t.if-out_of_wings.true in
     (rw w c.no_list.ensures, rw w)
 
 -- The wing is good.
-good_wing : (c : tie.Else1) → out_of_wings c.before.before.before.args.wing ≡ false
-good_wing c = sym c.before.out_of_wings.ensures ∙ c.if1.false
+good_wing : (c : tie.Else-out_of_wings) → out_of_wings c.before.before.before.args.wing ≡ false
+good_wing c = sym c.before.out_of_wings.ensures ∙ c.if-out_of_wings.false
 
-returns-2 : tie.Need-returns-2
+returns-2 : tie.Need-returns-then-years
 unfolding sheet_answer sheet_buffer
 returns-2 c =
     let t = c.before in
     let w = good_wing t.before in
-    (rw (w, t.if2.true) c.no-list2.ensures, rw (w, t.if2.true))
+    (rw (w, t.if-years.true) c.no_list-then-years.ensures, rw (w, t.if-years.true))
 
-good_years : (c : tie.Else2) → let years = c.before.before.before.before.args.years in (1 ≤ years) × (years ≤ most_years)
-good_years c = within 1 most_years c.before.before.before.before.args.years c.if2.false
+good_years : (c : tie.Else-years) → let years = c.before.before.before.before.args.years in (1 ≤ years) × (years ≤ most_years)
+good_years c = within 1 most_years c.before.before.before.before.args.years c.if-years.false
 
-returns-3 : tie.Need-returns-3
+returns-3 : tie.Need-returns-then-ends_outside
 unfolding sheet_answer sheet_buffer
 returns-3 c =
     let t = c.before in
     let s = t.before.before in
     let w = good_wing s.before in
-    let e = sym t.before.ends_outside.ensures ∙ t.if3.true in
-    (rw (w, s.if2.false, e) c.no-list3.ensures, rw (w, s.if2.false, e))
+    let e = sym t.before.ends_outside.ensures ∙ t.if-ends_outside.true in
+    (rw (w, s.if-years.false, e) c.no_list-then-ends_outside.ensures, rw (w, s.if-years.false, e))
 
 -- What is asked before the bytes are counted is met.
 record Good (wing h years : ℕ) : Type 0 where
@@ -56,16 +56,16 @@ record Good (wing h years : ℕ) : Type 0 where
   from : 1 ≤ h
   to : h + years ≤ 10000
 
-good : (c : tie.Else3) → let a = c.before.before.before.before.before.before.args in Good a.wing a.first_year a.years
+good : (c : tie.Else-ends_outside) → let a = c.before.before.before.before.before.before.args in Good a.wing a.first_year a.years
 good c =
     let s = c.before.before in
     let a = s.before.before.before.before.args in
     let y = good_years s in
-    let e = sym c.before.ends_outside.ensures ∙ c.if3.false in
+    let e = sym c.before.ends_outside.ensures ∙ c.if-ends_outside.false in
     let f = (either (ranged 1 last_year a.first_year) (ranged 1 last_year (a.first_year + a.years - 1))).passes e in
     record {
       wing_good = good_wing s.before;
-      years_good = s.if2.false;
+      years_good = s.if-years.false;
       ends_good = e;
       some = y.0;
       few = y.1;
@@ -74,22 +74,22 @@ good c =
     }
 
 -- So many bytes are wanted.
-wanted : (c : tie.After-count-rows) → let a = c.before.before.before.before.before.before.before.args in 16 + 8 * a.years + 6 * c.count_rows.result ≡ sheet_size a.wing a.first_year a.years
+wanted : (c : tie.After-count_rows-rows) → let a = c.before.before.before.before.before.before.before.args in 16 + 8 * a.years + 6 * c.count_rows-rows.result ≡ sheet_size a.wing a.first_year a.years
 unfolding sheet_size
-wanted c = rw c.count_rows.ensures.0
+wanted c = rw c.count_rows-rows.ensures.0
 
-small : (c : tie.After-count-rows) → let a = c.before.before.before.before.before.before.before.args in (a.years ≤ 100) × (c.count_rows.result ≤ 6000)
-small c = let g = good c.before in (g.few, omega (arith, g.few, c.count_rows.ensures.1))
+small : (c : tie.After-count_rows-rows) → let a = c.before.before.before.before.before.before.before.args in (a.years ≤ 100) × (c.count_rows-rows.result ≤ 6000)
+small c = let g = good c.before in (g.few, omega (arith, g.few, c.count_rows-rows.ensures.1))
 
-returns-4 : tie.Need-returns-4
+returns-4 : tie.Need-returns-then-out-size
 unfolding sheet_answer sheet_buffer
 returns-4 c =
     let n = c.before in
     let g = good n.before in
-    let t = lt-ltb _ _ c.if4.true in
+    let t = lt-ltb _ _ c.if-out-size.true in
     (rw (g.wing_good, g.years_good, g.ends_good, ← wanted n, t), rw (g.wing_good, g.years_good, g.ends_good, ← wanted n, t))
 
-returns-5 : tie.Need-returns-5
+returns-5 : tie.Need-returns
 unfolding sheet_answer sheet_buffer
 returns-5 c =
     let y = c.before.before in
@@ -98,21 +98,21 @@ returns-5 c =
     let n = l.before in
     let a = n.before.before.before.before.before.before.before.args in
     let g = good n.before in
-    let room = rw (wanted n) at l.if4.false in
+    let room = rw (wanted n) at l.if-out-size.false in
     let f = le-ltb _ _ room in
-    let stored = rw (p.put_header.ensures, n.count_rows.ensures.0) at y.write_years.ensures in
+    let stored = rw (p.put_header.ensures, n.count_rows-rows.ensures.0) at y.write_years.ensures in
     (rw (g.wing_good, g.years_good, g.ends_good, wanted n, f), rw (g.wing_good, g.years_good, g.ends_good, f) (stored ∙ all_written a.wing a.first_year a.years a.out.now room))
 
-put_header_requires : tie.Need-put-header-requires
-put_header_requires c κs = let l = c.before in (omega (arith, l.if4.false), (small l.before).0)
+put_header_requires : tie.Need-put_header-requires
+put_header_requires c κs = let l = c.before in (omega (arith, l.if-out-size.false), (small l.before).0)
 
-write_years_requires : tie.Need-write-years-requires
+write_years_requires : tie.Need-write_years-requires
 write_years_requires c κs =
     let p = c.before.before.before in
     let l = p.before.before in
     let n = l.before in
     let g = good n.before in
-    let room = rw n.count_rows.ensures.0 at l.if4.false in
+    let room = rw n.count_rows-rows.ensures.0 at l.if-out-size.false in
     (g.from, (g.few, (g.to, rw p.put_header.ensures (rw (length-sets _ 0 _) room))))
 
 pub sheet_write_spec : {M : Type 1} → statement M

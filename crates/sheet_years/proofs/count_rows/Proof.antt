@@ -10,31 +10,31 @@ use Rattle.sheet.specs.Sheet.{rows_in, rows_before}
 use Rattle.sheet_years.proofs.count_rows.Statement.{statement}
 use Rattle.sheet_years.proofs.count_rows.Tie as tie
 
-abbrev invariant-loop : tie.invariant-loop
+abbrev invariant-loop : tie.invariant-loop-k
 invariant-loop wing first_year years rows₀ k₀ rows k = (k ≤ years) × (rows ≡ rows_before wing first_year k) × (rows ≤ 60 * k)
 
-abbrev decreases-loop : tie.decreases-loop
+abbrev decreases-loop : tie.decreases-loop-k
 decreases-loop wing first_year years rows₀ k₀ rows k = years - k
 
-loop-again : tie.Need-loop-preserved invariant-loop decreases-loop
+loop-again : tie.Need-loop-k-preserved invariant-loop decreases-loop
 unfolding rows_before
 loop-again c =
     let y = c.before in
     let l = y.before.before in
     let a = l.before.args in
-    let more = rw y.year_span.ensures.year at c.rows_in.ensures.0 in (
+    let more = rw y.year_span.ensures.year at c.rows_in-rows.ensures.0 in (
       omega arith,
-      rw (total_more (λ k. rows_in a.wing (a.first_year + k)) l.loop.k, ← more) (omega (arith, l.loop.invariant.1)),
-      omega (arith, c.rows_in.ensures.1, l.loop.invariant.2),
+      rw (total_more (λ k. rows_in a.wing (a.first_year + k)) l.loop-k.k, ← more) (omega (arith, l.loop-k.invariant.1)),
+      omega (arith, c.rows_in-rows.ensures.1, l.loop-k.invariant.2),
     )
 
 returns : tie.Need-returns invariant-loop decreases-loop
 returns c =
     let l = c.before in
-    let q : l.loop.k ≡ l.before.args.years = omega arith in
-    (rw q at l.loop.invariant.1, rw q at l.loop.invariant.2)
+    let q : l.loop-k.k ≡ l.before.args.years = omega arith in
+    (rw q at l.loop-k.invariant.1, rw q at l.loop-k.invariant.2)
 
-loop_holds : tie.Need-loop-init invariant-loop decreases-loop
+loop_holds : tie.Need-loop-k-init invariant-loop decreases-loop
 unfolding rows_before total
 loop_holds c = (omega arith, refl, omega arith)
 
@@ -48,7 +48,7 @@ count_rows_spec =
     (search rules)
     (λ c κs. omega arith)
     (λ c κs. spans_own _ _ c.year_span.ensures)
-    (λ c. let l = c.before.before.before in omega (arith, c.rows_in.ensures.1, l.loop.invariant.2))
+    (λ c. let l = c.before.before.before in omega (arith, c.rows_in-rows.ensures.1, l.loop-k.invariant.2))
     (search rules)
     (search rules)
     loop-again

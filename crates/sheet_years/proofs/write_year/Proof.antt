@@ -13,23 +13,23 @@ use Rattle.sheet_years.proofs.write_year.Tie as tie
 
 -- What is worked out is the year's list.
 listed :
-    (c : tie.After-year-rows) →
+    (c : tie.After-year_rows-entries) →
     let a = c.before.before.before.args in
     let list = stretch_rows (table_of a.wing) a.span.year in
-    (c.year_rows.result ≡ count list) × (take c.year_rows.result c.year_rows.new.1.1.0 ≡ list)
+    (c.year_rows-entries.result ≡ count list) × (take c.year_rows-entries.result c.year_rows-entries.new.1.1.0 ≡ list)
 unfolding overwrite
 listed c =
     let a = c.before.before.before.args in
-    let n = c.year_rows.ensures in
+    let n = c.year_rows-entries.ensures in
     (n.0, rw (n.1.1, n.0) (take-append_seam (stretch_rows (table_of a.wing) a.span.year) _))
 
-write_list_requires : tie.Need-write-list-requires
+write_list_requires : tie.Need-write_list-requires
 unfolding rows_in
 write_list_requires c κs =
     let r = c.before.before.before in
     let w = listed r in
     let s = r.before.before.before in
-    rw w.1 (omega (arith, w.0, r.year_rows.ensures.1.0), s.requires.1)
+    rw w.1 (omega (arith, w.0, r.year_rows-entries.ensures.1.0), s.requires.1)
 
 returns : tie.Need-returns
 unfolding rows_in year_rows
@@ -37,7 +37,7 @@ returns c =
     let k = c.before.before in
     let r = k.before.before.before.before in
     let w = listed r in
-    (rw w.0, (omega (arith, r.year_rows.ensures.1.0), rw w.1 at k.write_list.ensures))
+    (rw w.0, (omega (arith, r.year_rows-entries.ensures.1.0), rw w.1 at k.write_list.ensures))
 
 pub write_year_spec : {M : Type 1} → statement M
 write_year_spec =

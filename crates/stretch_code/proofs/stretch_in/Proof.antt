@@ -32,10 +32,10 @@ inside c = let i = in_year c in omega (arith, c.requires.1.0, c.requires.1.1, i.
 
 -- What the run says of the day.
 answered :
-    (c : tie.After-run-for) →
+    (c : tie.After-run_for-run) →
     let a = c.before.before.args in
-    let first = a.new_year + c.run_for.result.first in
-    let past = a.new_year + c.run_for.result.past in
+    let first = a.new_year + c.run_for-run.result.first in
+    let past = a.new_year + c.run_for-run.result.past in
     stretch_answer (table_of a.wing) a.day ≡ cond (ltb last_day first) (no_stretch 9) (stretch_on a.day first past)
 answered c =
     let w = c.before in
@@ -49,20 +49,20 @@ answered c =
     let days = s.requires.1.1 in
     let x : new_year h + (j - new_year h) ≡ j = omega (arith, begins) in
     let d : j - new_year h < year_length h = omega (arith, begins, days) in
-    rw (c.run_for.ensures.0.0, c.run_for.ensures.0.1, w.weekday_of.ensures, begins, days)
+    rw (c.run_for-run.ensures.0.0, c.run_for-run.ensures.0.1, w.weekday_of.ensures, begins, days)
     (rw x at (worked_out (record { table = table_of a.wing; year = h; ok = tables_pass a.wing; low = y.low; high = y.high }) (j - new_year h) d))
 
-returns : tie.Need-returns
-returns c = let t = c.before in rw (answered t.before.before, lt-ltb last_day _ t.if1.true) c.refused.ensures
+returns : tie.Need-returns-then-first-gt-LAST_DAY
+returns c = let t = c.before in rw (answered t.before.before, lt-ltb last_day _ t.if-first-gt-LAST_DAY.true) c.refused.ensures
 
-returns-2 : tie.Need-returns-2
+returns-2 : tie.Need-returns
 returns-2 c =
     let e = c.before.before in
     let r = e.before.before in
     let t : to_z w64 (of_z w64 c.days_left.result) ≡ c.days_left.result = search rules in
     let j = r.before.before.args.new_year in
-    let n : j + r.run_for.result.past - (j + r.run_for.result.first) ≡ r.run_for.result.past - r.run_for.result.first = omega arith in
-    rw (answered r, le-ltb last_day _ e.if1.false, t, c.days_left.ensures, n)
+    let n : j + r.run_for-run.result.past - (j + r.run_for-run.result.first) ≡ r.run_for-run.result.past - r.run_for-run.result.first = omega arith in
+    rw (answered r, le-ltb last_day _ e.if-first-gt-LAST_DAY.false, t, c.days_left.ensures, n)
 
 pub stretch_in_spec : {M : Type 1} → statement M
 stretch_in_spec =

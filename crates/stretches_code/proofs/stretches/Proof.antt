@@ -17,44 +17,44 @@ use Rattle.stretches.specs.Stretches.{stretch_rows}
 use Rattle.stretches_code.proofs.stretches.Statement.{statement}
 use Rattle.stretches_code.proofs.stretches.Tie as tie
 
-returns : tie.Need-returns
+returns : tie.Need-returns-then-refusal-ne0
 unfolding list_answer list_buffer
-returns c = let t = c.before in list_refused _ _ _ _ _ _ _ t.before.list_refusal.ensures t.if1.true c.no_list.ensures
+returns c = let t = c.before in list_refused _ _ _ _ _ _ _ t.before.list_refusal-refusal.ensures t.if-refusal-ne0.true c.no_list.ensures
 
 -- Wing and year are good.
-good : (c : tie.Else1) → let a = c.before.before.before.args in (out_of_wings a.wing ≡ false) × (out_of_years a.year ≡ false)
-good c = list_passed _ _ _ c.before.list_refusal.ensures c.if1.false
+good : (c : tie.Else-refusal-ne0) → let a = c.before.before.before.args in (out_of_wings a.wing ≡ false) × (out_of_years a.year ≡ false)
+good c = list_passed _ _ _ c.before.list_refusal-refusal.ensures c.if-refusal-ne0.false
 
 -- What is worked out is the year's list.
 listed :
-    (c : tie.After-year-rows) →
+    (c : tie.After-year_rows-wanted) →
     let a = c.before.before.before.before.before.before.args in
     let list = stretch_rows (table_of a.wing) a.year in
-    (c.year_rows.result ≡ length list) × (take c.year_rows.result c.year_rows.new.1.1.0 ≡ list)
+    (c.year_rows-wanted.result ≡ length list) × (take c.year_rows-wanted.result c.year_rows-wanted.new.1.1.0 ≡ list)
 unfolding overwrite
 listed c =
     let y = c.before.before.year_span.ensures.year in
     let a = c.before.before.before.before.before.before.args in
-    let n = c.year_rows.ensures in
-    let e : c.year_rows.result ≡ length (stretch_rows (table_of a.wing) a.year) = rw y at n.0 in
+    let n = c.year_rows-wanted.ensures in
+    let e : c.year_rows-wanted.result ≡ length (stretch_rows (table_of a.wing) a.year) = rw y at n.0 in
     (e, rw (n.1.1, y, e) (take-append_seam (stretch_rows (table_of a.wing) a.year) _))
 
-returns-2 : tie.Need-returns-2
+returns-2 : tie.Need-returns-then-out-wanted
 unfolding list_answer list_buffer
 returns-2 c =
     let r = c.before.before in
     let g = good r.before.before.before in
     let n = (listed r).0 in
-    let t = lt-ltb _ _ c.if2.true in
+    let t = lt-ltb _ _ c.if-out-wanted.true in
     (rw (g.0, g.1, ← n, t), rw (g.0, g.1, ← n, t))
 
 copy_requires : tie.Need-copy-requires
 copy_requires c κs =
     let t = c.before.before in
     let w = listed t.before.before in
-    rw (w.1, ← w.0) t.if2.false
+    rw (w.1, ← w.0) t.if-out-wanted.false
 
-returns-3 : tie.Need-returns-3
+returns-3 : tie.Need-returns
 unfolding list_answer list_buffer
 returns-3 c =
     let k = c.before.before in
@@ -62,7 +62,7 @@ returns-3 c =
     let r = t.before.before in
     let g = good r.before.before.before in
     let w = listed r in
-    let f = le-ltb _ _ t.if2.false in
+    let f = le-ltb _ _ t.if-out-wanted.false in
     (rw (g.0, g.1, ← w.0, f), rw (g.0, g.1, ← w.0, f) (rw w.1 at k.copy.ensures))
 
 pub stretches_spec : {M : Type 1} → statement M

@@ -9,13 +9,13 @@ use Rattle.stretches.proofs.Ended.{stretches_same}
 use Rattle.stretches_code.proofs.year_rows.Statement.{statement}
 use Rattle.stretches_code.proofs.year_rows.Tie as tie
 
-write_rows_requires : tie.Need-write-rows-requires
+write_rows_requires : tie.Need-write_rows-requires
 unfolding kind_of
 write_rows_requires c κs =
     let w = c.before in
     let s = w.before.before in
     let e = s.requires.0 in
-    (omega arith, (omega (arith, e.small), (e.decreases, (rw (w.weekday_of.ensures, e.days, e.begins) (kind_in s.args.span.year e.first (omega (arith, e.last))), s.requires.1))))
+    (omega arith, (omega (arith, e.small), (e.measured, (rw (w.weekday_of-weekday.ensures, e.days, e.begins) (kind_in s.args.span.year e.first (omega (arith, e.last))), s.requires.1))))
 
 returns : tie.Need-returns
 returns c =
@@ -24,7 +24,7 @@ returns c =
     let s = w.before.before in
     let e = s.requires.0 in
     let wing = s.args.wing in
-    let same = rw (← e.days, ← e.begins, ← w.weekday_of.ensures) at (stretches_same (record { table = table_of wing; year = s.args.span.year; ok = tables_pass wing; low = e.first; high = e.last })) in
+    let same = rw (← e.days, ← e.begins, ← w.weekday_of-weekday.ensures) at (stretches_same (record { table = table_of wing; year = s.args.span.year; ok = tables_pass wing; low = e.first; high = e.last })) in
     rw same r.write_rows.ensures
 
 pub year_rows_spec : {M : Type 1} → statement M

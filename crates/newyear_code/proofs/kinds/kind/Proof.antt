@@ -19,7 +19,7 @@ kind_spec =
     (λ c κs.
     let s = c.before in
     let e = s.year_span-span.ensures in
-    (e.decreases, rw (c.weekday_of-weekday.ensures, e.begins, e.days) (kind_in s.before.before.args.year e.first (omega (arith, e.last)))))
+    (e.measured, rw (c.weekday_of-weekday.ensures, e.begins, e.days) (kind_in s.before.before.args.year e.first (omega (arith, e.last)))))
     (λ c.
     let w = c.before in
     let s = w.before in

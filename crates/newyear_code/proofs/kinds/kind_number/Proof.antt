@@ -39,9 +39,6 @@ known w len n k =
     let f = facts (tests w len) (kind_passes (λ w len. all (tests w len)) tests_all w len n k) in
     record { inside = ltb-true _ _ f.0; small = leb-true _ _ f.1.0; told = eqb-true _ _ f.1.1.0 }
 
-asked : (c : tie.After-pick-second) → let a = c.before.before.before.args in Known a.weekday a.length
-asked c = let b = c.before.before.before in known b.args.weekday b.args.length b.requires.0 b.requires.1
-
 pub kind_number_spec : {M : Type 1} → statement M
 kind_number_spec =
     tie.close
@@ -49,10 +46,9 @@ kind_number_spec =
     (search rules)
     (search rules)
     (search rules)
-    (λ c. (asked c).inside)
-    (λ c. let k = asked c in record { fits = omega arith })
-    (λ c. let k = asked c in search rules)
-    (λ c. let k = asked c in search rules)
+    (λ c. (known c.args.weekday c.args.length c.requires.0 c.requires.1).inside)
+    (λ c. let k = known c.args.weekday c.args.length c.requires.0 c.requires.1 in record { fits = omega arith })
+    (λ c. let k = known c.args.weekday c.args.length c.requires.0 c.requires.1 in search rules)
+    (λ c. let k = known c.args.weekday c.args.length c.requires.0 c.requires.1 in search rules)
     (λ c.
-    let p = c.before in
-    rw (c.pick-second.ensures.0, p.pick-before.ensures.0, p.before.pick-common.ensures.0) (asked c).told))
+    rw (c.pick-second.ensures.0, c.pick-before.ensures.0, c.pick-common.ensures.0) (known c.args.weekday c.args.length c.requires.0 c.requires.1).told))

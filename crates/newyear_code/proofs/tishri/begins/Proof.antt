@@ -17,10 +17,10 @@ use Rattle.newyear_code.proofs.tishri.begins.Statement.{statement}
 use Rattle.newyear_code.proofs.tishri.begins.Tie as tie
 
 -- The weekday goes on with the days, and round the week.
-moved : (c : tie.After-pick) → let d = c.before.before.before.before in c.pick.result ≡ weekday (d.before.before.molad_after-m.result.day + d.delay-late.result.delay-late) + 7
+moved : (c : tie.After-pick) → let d = c.before.before.before.before in c.pick.result ≡ weekday (d.before.before.molad_after-m.result.day + d.delay-late.result.delay) + 7
 moved c =
     let d = c.before.before.before.before in
-    let x = d.before.weekday_of-weekday.result + d.delay-late.result.delay-late in
+    let x = d.before.weekday_of-weekday.result + d.delay-late.result.delay in
     let e : c.pick.result ≡ cond (ltb 7 x) x (x + 7) = c.pick.ensures.0 in
     by_cases (dec_lt 7 x) (λ p. rw (e, lt-ltb 7 x p) (omega arith)) (λ p. rw (e, le-ltb 7 x (omega arith)) (omega arith))
 
@@ -51,7 +51,7 @@ returns c =
     let k = known d in
     let m = d.before.before in
     let y = m.before.before.args.year in
-    let begun : m.molad_after-m.result.day + d.delay-late.result.delay-late ≡ new_year y = rw (k.on, k.late) in
+    let begun : m.molad_after-m.result.day + d.delay-late.result.delay ≡ new_year y = rw (k.on, k.late) in
     record {
       day = begun;
       on = rw (moved c, begun) (omega arith);

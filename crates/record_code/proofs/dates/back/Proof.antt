@@ -6,23 +6,23 @@ use Rattle.record_code.proofs.Sound.{back_sound}
 use Rattle.record_code.proofs.dates.back.Statement.{statement}
 use Rattle.record_code.proofs.dates.back.Tie as tie
 
-sub_date : tie.Need-overflow-sub-t9
+sub_date : tie.Need-overflow_sub-result
 sub_date c =
     let r = c.before.before.before.before.before.before.args.r in
-    let t = back_sound r c.before.if1.true in
+    let t = back_sound r c.before.if-r.true in
     let l : 1 ≤ r.date = omega arith in l
 
-add_remaining : tie.Need-overflow-add-t10
+add_remaining : tie.Need-overflow_add-result
 add_remaining c =
     let r = c.before.before.before.before.before.before.before.args.r in
-    let t = back_sound r c.before.before.if1.true in
+    let t = back_sound r c.before.before.if-r.true in
     let l : r.remaining + 1 < 2 ^ 64 = omega arith in record { fits = l }
 
-returns : tie.Need-returns
+returns : tie.Need-returns-then-r
 unfolding date_back
 returns c =
     let r = c.before.before.before.before.before.before.before.args.r in
-    let e = c.before.before.if1.true in
+    let e = c.before.before.if-r.true in
     let t = back_sound r e in
     let l : r.date - 1 ≤ 400 = omega arith in (rw e, (t.1.1.0, l))
 
@@ -36,4 +36,4 @@ back_spec =
     returns
     (search rules)
     (search rules)
-    (λ c. (rw c.before.before.if1.false c.dated.ensures.0, c.dated.ensures.1)))
+    (λ c. (rw c.before.before.if-r.false c.dated.ensures.0, c.dated.ensures.1)))

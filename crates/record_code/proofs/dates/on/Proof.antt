@@ -13,10 +13,10 @@ on_spec =
     (tie.spec
     (λ c.
     let r = c.before.before.before.before.args.r in
-    let t = on_sound r c.before.if1.true in
+    let t = on_sound r c.before.if-r.true in
     let l : r.date + 1 < 2 ^ 64 = omega arith in record { fits = l })
-    (λ c. (on_sound c.before.before.before.before.before.args.r c.before.before.if1.true).1)
-    (λ c. rw c.before.before.if1.true)
+    (λ c. (on_sound c.before.before.before.before.before.args.r c.before.before.if-r.true).1)
+    (λ c. rw c.before.before.if-r.true)
     (search rules)
     (search rules)
-    (λ c. rw c.before.before.if1.false c.dated.ensures.0))
+    (λ c. rw c.before.before.if-r.false c.dated.ensures.0))

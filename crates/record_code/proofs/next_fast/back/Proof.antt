@@ -9,13 +9,13 @@ use Rattle.record_code.proofs.next_fast.back.Statement.{statement}
 use Rattle.record_code.proofs.next_fast.back.Tie as tie
 
 -- The test is that of the step.
-kept : (c : tie.Then1) → let a = c.before.before.before.before.args in fast_kept_back a.r a.x ≡ true
-kept c = rw (← c.before.before.before.may_fast.ensures) c.if1.true
+kept : (c : tie.Then-r-may) → let a = c.before.before.before.before.args in fast_kept_back a.r a.x ≡ true
+kept c = rw (← c.before.before.before.may_fast-may.ensures) c.if-r-may.true
 
-over : (c : tie.Else1) → let a = c.before.before.before.before.args in fast_kept_back a.r a.x ≡ false
-over c = rw (← c.before.before.before.may_fast.ensures) c.if1.false
+over : (c : tie.Else-r-may) → let a = c.before.before.before.before.args in fast_kept_back a.r a.x ≡ false
+over c = rw (← c.before.before.before.may_fast-may.ensures) c.if-r-may.false
 
-add_t9 : tie.Need-overflow-add-t9
+add_t9 : tie.Need-overflow_add-result
 add_t9 c =
     let t = c.before in
     let a = t.before.before.before.before.args in

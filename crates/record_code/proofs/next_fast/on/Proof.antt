@@ -9,8 +9,8 @@ unfolding fast_onward
 on_spec =
     tie.close
     (tie.spec
-    (λ c. fast_on_sound c.before.before.before.before.args.r c.before.if1.true)
-    (λ c. rw c.before.if1.true)
+    (λ c. fast_on_sound c.before.before.before.before.args.r c.before.if-r.true)
+    (λ c. rw c.before.if-r.true)
     (search rules)
     (search rules)
-    (λ c. rw c.before.before.if1.false c.ahead.ensures))
+    (λ c. rw c.before.before.if-r.false c.ahead.ensures))

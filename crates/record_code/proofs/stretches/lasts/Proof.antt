@@ -12,7 +12,7 @@ lasts_spec =
     (tie.spec
     (λ c.
     let r = c.before.before.before.before.before.args.r in
-    let t = told_sound r c.before.if1.true in
+    let t = told_sound r c.before.if-r.true in
     let l : r.first + r.length < 2 ^ 64 = omega arith in record { fits = l })
-    (λ c. rw c.before.if1.true)
-    (λ c. rw c.if1.false))
+    (λ c. rw c.before.if-r.true)
+    (λ c. rw c.if-r.false))

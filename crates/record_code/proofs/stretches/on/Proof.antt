@@ -11,7 +11,7 @@ on_spec =
     (tie.spec
     (search rules)
     (search rules)
-    (λ c κs. (c.before.before.before.requires.1, sym c.before.lasts.ensures ∙ c.if1.true))
-    (λ c. let t = c.before in rw (← t.before.lasts.ensures, t.if1.true) c.kept.ensures)
+    (λ c κs. (c.before.before.before.requires.1, sym c.before.lasts.ensures ∙ c.if-lasts.true))
+    (λ c. let t = c.before in rw (← t.before.lasts.ensures, t.if-lasts.true) c.kept.ensures)
     (search rules)
-    (λ c. let t = c.before in rw (← t.before.lasts.ensures, t.if1.false) c.stretch.ensures))
+    (λ c. let t = c.before in rw (← t.before.lasts.ensures, t.if-lasts.false) c.stretch.ensures))

@@ -10,10 +10,10 @@ rests_spec =
     tie.close
     (tie.spec
     (search rules)
-    (λ c. rw (← c.before.weekday_of.ensures, eq-eqb _ _ c.if1.true))
+    (λ c. rw (← c.before.weekday_of.ensures, eq-eqb _ _ c.if-weekday_of-eq7.true))
     (search rules)
     (search rules)
     (search rules)
     (λ c.
     let e = c.before.before.before in
-    rw (← e.before.weekday_of.ensures, ne_eqb _ _ e.if1.false) c.kept.ensures))
+    rw (← e.before.weekday_of.ensures, ne_eqb _ _ e.if-weekday_of-eq7.false) c.kept.ensures))

@@ -19,11 +19,11 @@ both : (stepped : Bool) → cond {A = ℕ} stepped 1 0 + 2 ≡ cond stepped 3 2
 both true = refl
 both false = refl
 
-same_cause : (c : tie.After-pick-6) → let d = c.before.before.before in let a = d.before.before.before.before.args in c.pick-6.result ≡ cause_by a.past-noon a.place a.weekday a.part
+same_cause : (c : tie.After-pick-6) → let d = c.before.before.before in let a = d.before.before.before.before.args in c.pick-6.result ≡ cause_by a.past_noon a.place a.weekday a.part
 unfolding cause_by weekday_line monday_line tuesday_line
 same_cause c =
     let one = c.before.before.before.before.before.before in
-    rw (or-false (eqb one.before.args.weekday 6), c.pick-6.ensures.0, c.before.pick-5.ensures.0, c.before.before.pick-4.ensures.0, one.pick-noon.ensures.0, both one.before.args.past-noon)
+    rw (or-false (eqb one.before.args.weekday 6), c.pick-6.ensures.0, c.before.pick-5.ensures.0, c.before.before.pick-4.ensures.0, one.pick-noon.ensures.0, both one.before.args.past_noon)
 
 returns : tie.Need-returns
 returns c =

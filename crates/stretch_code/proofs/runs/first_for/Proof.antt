@@ -10,5 +10,5 @@ first_for_spec =
     tie.close
     (tie.spec
     (λ c κs. let p = c.before.requires in (p.0, (p.1.0, p.1.1.0)))
-    (λ c. let s = c.before in (sym (back_here _ s.args.n (omega arith) (s.requires.1.1.1 c.if1.true)), omega arith))
+    (λ c. let s = c.before in (sym (back_here _ s.args.n (omega arith) (s.requires.1.1.1 c.if-x-n.true)), omega arith))
     (search rules))

@@ -17,23 +17,23 @@ use Rattle.stretch_code.proofs.runs.run_for.Statement.{statement}
 use Rattle.stretch_code.proofs.runs.run_for.Tie as tie
 
 -- The first date of the walk.
-begun : (c : tie.After-date-after) → let a = c.before.args in let d = c.date_after.result in (d.after ≡ a.x) × (d ≡ year_date a.length d.after)
+begun : (c : tie.After-date_after) → let a = c.before.args in let d = c.date_after.result in (d.after ≡ a.x) × (d ≡ year_date a.length d.after)
 begun c = at_date _ c.before.args.x _ c.date_after.ensures
 
 -- The next rest day.
 next :
-    (c : tie.After-first-day) →
+    (c : tie.After-first_day-next) →
     let a = c.before.before.args in
-    let d = c.first_day.result in
+    let d = c.first_day-next.result in
     (d.after ≡ next_at (rest_at (table_of a.wing) a.weekday a.length) a.length a.x) × (d ≡ year_date a.length d.after)
 unfolding next_at
-next c = at_date _ _ _ (rw (begun c.before).0 at c.first_day.ensures)
+next c = at_date _ _ _ (rw (begun c.before).0 at c.first_day-next.ensures)
 
-told : (c : tie.After-first-day) → let a = c.before.before.args in Seek (rest_at (table_of a.wing) a.weekday a.length) (a.length - a.x) a.x c.first_day.result.after
+told : (c : tie.After-first_day-next) → let a = c.before.before.args in Seek (rest_at (table_of a.wing) a.weekday a.length) (a.length - a.x) a.x c.first_day-next.result.after
 unfolding next_at
 told c = rw (next c).0 (seek_tells _ _ _)
 
-first_for_requires : tie.Need-first-for-requires
+first_for_requires : tie.Need-first_for-requires
 first_for_requires c κs =
     let f = c.before.before.before.before in
     let s = f.before.before in
@@ -42,65 +42,65 @@ first_for_requires c κs =
 
 -- The day after it.
 after :
-    (c : tie.After-next-date) →
+    (c : tie.After-next_date) →
     let a = c.before.before.before.before.before.args in
     let d = c.next_date.result in
-    (d.after ≡ c.before.before.before.first_day.result.after + 1) × (d ≡ year_date a.length d.after)
+    (d.after ≡ c.before.before.before.first_day-next.result.after + 1) × (d ≡ year_date a.length d.after)
 after c =
     let f = c.before.before.before in
     let s = f.before.before in
-    at_date _ _ _ (rw (next f).1 at c.next_date.ensures ∙ tomorrow_is s.args.length f.first_day.result.after s.requires.1.0 c.before.if1.true)
+    at_date _ _ _ (rw (next f).1 at c.next_date.ensures ∙ tomorrow_is s.args.length f.first_day-next.result.after s.requires.1.0 c.before.if-next-length.true)
 
 -- Where the run ends: its own, or that of the next New Year.
 ends :
-    (c : tie.After-first-day2) →
-    let d = c.before.before.before.before.first_day.result in
+    (c : tie.After-first_day-past) →
+    let d = c.before.before.before.before.first_day-next.result in
     let a = c.before.before.before.before.before.before.args in
-    let k = c.first-day2.result.after in
+    let k = c.first_day-past.result.after in
     (k ≡ seek_not (rest_at (table_of a.wing) a.weekday a.length) (a.length - d.after) d.after) × Seek (λ k. not (rest_at (table_of a.wing) a.weekday a.length k)) (a.length - d.after) d.after k
 unfolding seek_not
 ends c =
     let t = c.before.before in
     let f = t.before.before in
     let a = f.before.before.args in
-    let n = f.first_day.result.after in
+    let n = f.first_day-next.result.after in
     let rest = rest_at (table_of a.wing) a.weekday a.length in
-    let on = search_on (λ k. not (rest k)) a.length n t.if1.true (rw ((told f).pass (omega arith))) in
-    let e = (at_date _ _ _ (rw (after c.before).0 at c.first-day2.ensures)).0 ∙ sym on in (e, rw e (seek_tells _ _ _))
+    let on = search_on (λ k. not (rest k)) a.length n t.if-next-length.true (rw ((told f).pass (omega arith))) in
+    let e = (at_date _ _ _ (rw (after c.before).0 at c.first_day-past.ensures)).0 ∙ sym on in (e, rw e (seek_tells _ _ _))
 
-first : (c : tie.After-date-after2) → (c.date-after2.result.after ≡ 0) × (c.date-after2.result ≡ year_date c.before.before.before.before.before.args.length c.date-after2.result.after)
-first c = at_date _ 0 _ c.date-after2.ensures
+first : (c : tie.After-date_after-else-next-length) → (c.date_after-else-next-length.result.after ≡ 0) × (c.date_after-else-next-length.result ≡ year_date c.before.before.before.before.before.args.length c.date_after-else-next-length.result.after)
+first c = at_date _ 0 _ c.date_after-else-next-length.ensures
 
 ends_next :
-    (c : tie.After-first-day3) →
+    (c : tie.After-first_day-past-else-next-length) →
     let a = c.before.before.before.before.before.before.args in
     let next = rest_at (table_of a.wing) (a.weekday + a.length) a.length in
-    let k = c.first-day3.result.after in
+    let k = c.first_day-past-else-next-length.result.after in
     (k ≡ seek_not next a.length 0) × Seek (λ k. not (next k)) a.length 0 k
 unfolding seek_not
 ends_next c =
     let z : c.before.before.before.before.before.before.args.length - 0 ≡ c.before.before.before.before.before.before.args.length = omega arith in
-    let e = (at_date _ _ _ (rw ((first c.before).0, z) at c.first-day3.ensures)).0 in (e, rw e (seek_tells _ _ _))
+    let e = (at_date _ _ _ (rw ((first c.before).0, z) at c.first_day-past-else-next-length.ensures)).0 in (e, rw e (seek_tells _ _ _))
 
-returns : tie.Need-returns
+returns : tie.Need-returns-then-next-length
 unfolding first_for past_for
 returns c =
     let p = c.before in
     let t = p.before.before in
     let f = t.before.before in
     let e = ends p in
-    let b = lt-ltb _ _ t.if1.true in
+    let b = lt-ltb _ _ t.if-next-length.true in
     let m = f.before.before.requires.1.0 in
-    ((rw (← (next f).0, b) c.first_for.ensures.0, rw (← (next f).0, b) e.0), (omega (arith, c.first_for.ensures.1, e.1.low), omega (arith, e.1.high, t.if1.true)))
+    ((rw (← (next f).0, b) c.first_for.ensures.0, rw (← (next f).0, b) e.0), (omega (arith, c.first_for.ensures.1, e.1.low), omega (arith, e.1.high, t.if-next-length.true)))
 
-returns-2 : tie.Need-returns-2
+returns-2 : tie.Need-returns-else-next-length
 unfolding first_for past_for
 returns-2 c =
     let p = c.before in
     let t = p.before.before in
     let f = t.before.before in
     let e = ends_next p in
-    let b = le-ltb _ _ t.if1.false in
+    let b = le-ltb _ _ t.if-next-length.false in
     let m = f.before.before.requires.1.0 in
     ((rw (← (next f).0, b), rw (← (next f).0, b, e.0)), (omega arith, omega (arith, e.1.high)))
 
