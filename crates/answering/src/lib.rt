@@ -1,13 +1,16 @@
 // The numbers of an answer, in the order of its fields, and how they are printed; and bytes that are held.
+#![tactic(auto)]
+
 mod slices;
 
 use show::{plain, text};
 pub use slices::{byte_at, first_bytes, sum, wide};
+use std::io;
 
 // The most fields that an answer has.
 pub const FIELDS: usize = 14;
 
-#[derive(Drop)]
+#[derive(Clone, Copy)]
 pub struct Answer {
     pub count: usize,
     // A number below 0 stands there as 2^64 less.
@@ -18,7 +21,7 @@ pub struct Answer {
 pub fn bits(number: i64) -> u64 {
     let magnitude = show::magnitude(number);
     if number < 0 {
-        return std::num::wrapping_sub_u64(0, magnitude);
+        return 0u64.wrapping_sub(magnitude);
     }
     magnitude
 }
@@ -35,14 +38,12 @@ pub fn no_answer() -> Answer {
 pub fn more(answer: Answer, numbers: &[u64]) -> Answer {
     let mut of = answer.of;
     let mut count = answer.count;
-    let mut i = 0;
-    while i < numbers.len() {
+    for number in numbers {
         if FIELDS <= count {
             return Answer { count, of };
         }
-        of[count] = numbers[i];
+        of[count] = *number;
         count += 1;
-        i += 1;
     }
     Answer { count, of }
 }
@@ -55,10 +56,8 @@ pub fn fields(numbers: &[u64]) -> Answer {
 pub fn mixed(sums: Answer, answer: Answer) -> Answer {
     let mut of = sums.of;
     let next = answer.of;
-    let mut i = 0;
-    while i < FIELDS {
+    for i in 0..FIELDS {
         of[i] = show::mixed(of[i], next[i]);
-        i += 1;
     }
     Answer {
         count: answer.count,
@@ -66,30 +65,28 @@ pub fn mixed(sums: Answer, answer: Answer) -> Answer {
     }
 }
 
-fn print_field(i: usize, number: u64) {
+fn print_field(out: &impl Print, i: usize, number: u64) -> io::Result<()> {
     if 0 < i {
-        text(b" ");
+        text(out, b" ")?;
     }
     if 9_223_372_036_854_775_807 < number {
-        text(b"-");
-        plain(std::num::wrapping_sub_u64(0, number));
+        text(out, b"-")?;
+        plain(out, 0u64.wrapping_sub(number))
     } else {
-        plain(number);
+        plain(out, number)
     }
 }
 
 // The fields on a line, one blank apart.
-pub fn print(answer: Answer) {
+pub fn print(out: &impl Print, answer: Answer) -> io::Result<()> {
     if answer.count == 0 {
-        text(b"not understood");
+        text(out, b"not understood")?;
     }
     let of = answer.of;
-    let mut i = 0;
-    while i < FIELDS {
+    for i in 0..FIELDS {
         if i < answer.count {
-            print_field(i, of[i]);
+            print_field(out, i, of[i])?;
         }
-        i += 1;
     }
-    show::end();
+    show::end(out)
 }

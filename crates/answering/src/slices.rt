@@ -25,10 +25,8 @@ pub fn byte_at(bytes: &[u8], at: usize) -> u8 {
 
 pub fn sum(bytes: &[u8]) -> u64 {
     let mut sum = 0;
-    let mut i = 0;
-    while i < bytes.len() {
-        sum = show::mixed(sum, wide(bytes[i]));
-        i += 1;
+    for byte in bytes {
+        sum = show::mixed(sum, wide(*byte));
     }
     sum
 }

@@ -1,49 +1,48 @@
 // Sheets cut off and changed: how many are refused with each number.
+#![tactic(auto)]
+
 ghost use Rattle.std.specs.Prelude.{◌≤◌, slice_index};
 
 use answering::first_bytes;
 use asking::MOST;
 use show::{end, plain, text};
+use std::io;
 
 fn counted(counts: &mut [u64; 20], refusal: u64) {
     if refusal < 20 {
         let at = refusal as usize;
-        counts[at] = std::num::wrapping_add_u64(counts[at], 1);
+        counts[at] = counts[at].wrapping_add(1);
     }
 }
 
 // The refusals that there were, each with its count.
-fn print_counts(counts: &[u64; 20]) -> bool {
-    text(b"refused");
-    let mut i = 0;
-    while i < 20 {
-        if 0 < counts[i] {
-            show::number(i as u64);
-            text(b":");
-            plain(counts[i]);
+fn print_counts(out: &impl Print, counts: &[u64; 20]) -> io::Result<bool> {
+    text(out, b"refused")?;
+    for (i, count) in counts.iter().enumerate() {
+        if 0 < *count {
+            show::number(out, i as u64)?;
+            text(out, b":")?;
+            plain(out, *count)?;
         }
-        i += 1;
     }
-    end();
-    true
+    end(out)?;
+    Ok(true)
 }
 
-pub fn print_cuts(wing: u64, sheet: &[u8]) -> bool {
+pub fn print_cuts(out: &impl Print, wing: u64, sheet: &[u8]) -> io::Result<bool> {
     let mut counts = [0; 20];
-    let mut n = 0;
-    while n < sheet.len() {
+    for n in 0..sheet.len() {
         counted(
             &mut counts,
             accepted_code::sheet_refusal(wing, first_bytes(sheet, n)),
         );
-        n += 1;
     }
-    print_counts(&counts)
+    print_counts(out, &counts)
 }
 
 fn turn(sheet: &mut [u8], at: usize, by: u8) {
     if at < sheet.len() {
-        sheet[at] = std::num::wrapping_add_u8(sheet[at], by);
+        sheet[at] = sheet[at].wrapping_add(by);
     }
 }
 
@@ -63,29 +62,38 @@ fn change(n: [u64; MOST], space: &mut [u8], length: usize, at: usize, counts: &m
     turn(space, at, 1);
 }
 
-fn change_bytes(n: [u64; MOST], space: &mut [u8], length: usize, to: u64) -> bool
+fn change_bytes(
+    out: &impl Print,
+    n: [u64; MOST],
+    space: &mut [u8],
+    length: usize,
+    to: u64,
+) -> io::Result<bool>
     requires { (1 ≤ slice_index n 2) × (slice_index n 2 ≤ 255) }
 {
     let mut counts = [0; 20];
-    let mut at = n[3];
-    while at < to {
+    for at in n[3]..to {
         change(n, space, length, at as usize, &mut counts);
-        at += 1;
     }
-    print_counts(&counts)
+    print_counts(out, &counts)
 }
 
 // The wing, the year, how far values are apart, and the bytes from one to before another. 255 has to be a multiple of how far
 // they are apart, so that a last turn by one makes a byte what it was.
-pub fn print_changes(n: [u64; MOST], space: &mut [u8], length: u64) -> bool {
+pub fn print_changes(
+    out: &impl Print,
+    n: [u64; MOST],
+    space: &mut [u8],
+    length: u64,
+) -> io::Result<bool> {
     if 255 < n[2] {
-        return false;
+        return Ok(false);
     }
     if n[2] < 1 {
-        return false;
+        return Ok(false);
     }
     if (255 % n[2] != 0) | (length < n[4]) {
-        return false;
+        return Ok(false);
     }
-    change_bytes(n, space, length as usize, n[4])
+    change_bytes(out, n, space, length as usize, n[4])
 }

@@ -4,6 +4,8 @@
 //     shown_date 347997      the date that the notice program shows
 //     comes_back 347998      1 if the day comes back from its Hebrew date
 //     stretch_1 347998       the same as stretch 1 347998, and stretch_2 for the guest wing
+#![tactic(auto)]
+
 mod signed;
 
 use answering::{Answer, bits, fields, more, no_answer};

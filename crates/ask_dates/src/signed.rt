@@ -1,7 +1,7 @@
 // A civil year that is asked, which may be below 0.
 use asking::{LARGEST_SIGNED, Numbers};
 
-#[derive(Drop)]
+#[derive(Clone, Copy)]
 pub struct Signed {
     pub good: bool,
     pub number: i64,

@@ -5,23 +5,24 @@
 //     fasts 5784 6
 //     sum_lists 1 1 9999       both lists of the wing in each of these years, mixed into one number
 //     sum_fasts 1 9999         the fasts of each of these years, mixed into one number
-ghost use Rattle.std.specs.Prelude.{◌≤◌};
+#![tactic(auto)]
+
+ghost use Rattle.std.specs.Prelude.{◌≤◌, IfOk};
 
 use show::{mixed, number, text};
+use std::io;
 
 // The most entries that are lent.
 const ROOM: usize = 140;
 
 // What an entry holds before the call.
 fn pattern(i: usize) -> u64 {
-    std::num::wrapping_add_u64(7_777_777, i as u64)
+    7_777_777u64.wrapping_add(i as u64)
 }
 
 fn fill(out: &mut [u64]) {
-    let mut i = 0;
-    while i < out.len() {
-        out[i] = pattern(i);
-        i += 1;
+    for (i, value) in out.iter_mut().enumerate() {
+        *value = pattern(i);
     }
 }
 
@@ -41,45 +42,43 @@ fn list(which: u64, wing: u64, year: u64, out: &mut [u64]) -> lists::ListAnswer 
 }
 
 // Prints an entry of the list; of one beyond it answers 1 if it holds what it held.
-fn entry(i: usize, value: u64, listed: u64) -> u64
-    ensures { result ≤ 1 }
+fn entry(out: &impl Print, i: usize, value: u64, listed: u64) -> io::Result<u64>
+    ensures { IfOk result (λ n. n ≤ 1) }
 {
     if (i as u64) < listed {
-        number(value);
-        return 0;
+        number(out, value)?;
+        return Ok(0);
     }
-    laws::pick(value == pattern(i), 1, 0)
+    Ok(laws::pick(value == pattern(i), 1, 0))
 }
 
-fn entries(out: &[u64], listed: u64) {
+fn entries(out: &impl Print, values: &[u64], listed: u64) -> io::Result<()> {
     let mut kept = 0;
-    let mut i = 0;
-    text(b":");
-    while i < out.len() {
-        kept += entry(i, out[i], listed);
-        i += 1;
+    text(out, b":")?;
+    for (i, value) in values.iter().enumerate() {
+        kept += entry(out, i, *value, listed)?;
     }
-    show::named(b"; kept", kept);
-    show::end();
+    show::named(out, b"; kept", kept)?;
+    show::end(out)
 }
 
 // False for more entries than can be lent.
-fn print_list(which: u64, wing: u64, year: u64, room: u64) -> bool {
+fn print_list(out: &impl Print, which: u64, wing: u64, year: u64, room: u64) -> io::Result<bool> {
     if 140 < room {
-        return false;
+        return Ok(false);
     }
     let mut buffer = [0u64; ROOM];
     let all: &mut [u64] = &mut buffer;
-    let out = &mut all[..room as usize];
-    fill(out);
-    let answer = list(which, wing, year, out);
+    let lent = &mut all[..room as usize];
+    fill(lent);
+    let answer = list(which, wing, year, lent);
     // A stretch takes two entries.
     let twice = laws::pick(which == STRETCHES, answer.count, 0);
-    let listed = std::num::wrapping_add_u64(answer.count, twice);
-    show::plain(answer.refusal);
-    number(answer.count);
-    entries(out, laws::pick(answer.refusal == 0, listed, 0));
-    true
+    let listed = answer.count.wrapping_add(twice);
+    show::plain(out, answer.refusal)?;
+    number(out, answer.count)?;
+    entries(out, lent, laws::pick(answer.refusal == 0, listed, 0))?;
+    Ok(true)
 }
 
 // An answer, and all entries of a buffer of noughts that is lent to it.
@@ -87,10 +86,8 @@ fn with_list(sum: u64, which: u64, wing: u64, year: u64) -> u64 {
     let mut out = [0u64; ROOM];
     let answer = list(which, wing, year, &mut out);
     let mut sum = mixed(mixed(sum, answer.refusal), answer.count);
-    let mut i = 0;
-    while i < ROOM {
-        sum = mixed(sum, out[i]);
-        i += 1;
+    for value in &out {
+        sum = mixed(sum, *value);
     }
     sum
 }
@@ -104,24 +101,22 @@ fn with_year(sum: u64, of_fasts: bool, wing: u64, year: u64) -> u64 {
 }
 
 // False for a run of too many years.
-fn print_sum(of_fasts: bool, wing: u64, first: u64, last: u64) -> bool {
-    let after = std::num::wrapping_sub_u64(last, first);
+fn print_sum(out: &impl Print, of_fasts: bool, wing: u64, first: u64, last: u64) -> io::Result<bool> {
+    let after = last.wrapping_sub(first);
     if 10_000 < after {
-        return false;
+        return Ok(false);
     }
     let mut sum = 0;
-    let mut i = 0;
-    while i <= after {
-        sum = with_year(sum, of_fasts, wing, std::num::wrapping_add_u64(first, i));
-        i += 1;
+    for i in 0..=after {
+        sum = with_year(sum, of_fasts, wing, first.wrapping_add(i));
     }
-    show::plain(sum);
-    show::end();
-    true
+    show::plain(out, sum)?;
+    show::end(out)?;
+    Ok(true)
 }
 
 // Answers a question, or answers false.
-pub fn answered(name: &[u8], numbers: asking::Numbers) -> bool {
+pub fn answered(out: &impl Print, name: &[u8], numbers: asking::Numbers) -> io::Result<bool> {
     let n = numbers.of;
     match asking::asked(
         b"rest_days stretches fasts sum_lists sum_fasts",
@@ -129,11 +124,11 @@ pub fn answered(name: &[u8], numbers: asking::Numbers) -> bool {
         name,
         numbers,
     ) {
-        0 => print_list(REST_DAYS, n[0], n[1], n[2]),
-        1 => print_list(STRETCHES, n[0], n[1], n[2]),
-        2 => print_list(FAST_DAYS, 0, n[0], n[1]),
-        3 => print_sum(false, n[0], n[1], n[2]),
-        4 => print_sum(true, 0, n[0], n[1]),
-        _ => false,
+        0 => print_list(out, REST_DAYS, n[0], n[1], n[2]),
+        1 => print_list(out, STRETCHES, n[0], n[1], n[2]),
+        2 => print_list(out, FAST_DAYS, 0, n[0], n[1]),
+        3 => print_sum(out, false, n[0], n[1], n[2]),
+        4 => print_sum(out, true, 0, n[0], n[1]),
+        _ => Ok(false),
     }
 }

@@ -5,7 +5,11 @@
 //     year_page 5762\0a                 what the year program prints
 //     notice_page 5762\0a1\0a           what the notice program prints
 //     sheet_on_lines 1\0a5787\0a1\0a    the refusal and the count of the sheet program, with 400 bytes lent
+#![tactic(auto)]
+
 ghost use Rattle.std.specs.Prelude.{◌≤◌, ◌<◌, length};
+
+use std::io;
 
 const BACKSLASH: u8 = 92;
 
@@ -56,39 +60,39 @@ fn read_input(text: &[u8], out: &mut [u8; ROOM]) -> usize {
     length
 }
 
-fn print_pair(refusal: u64, number: u64) {
-    answering::print(answering::fields(&[refusal, number]));
+fn print_pair(out: &impl Print, refusal: u64, number: u64) -> io::Result<()> {
+    answering::print(out, answering::fields(&[refusal, number]))
 }
 
-fn print_number(input: &[u8]) {
+fn print_number(out: &impl Print, input: &[u8]) -> io::Result<()> {
     let answer = line_code::number_on_line(input);
-    print_pair(answer.refusal, answer.number);
+    print_pair(out, answer.refusal, answer.number)
 }
 
-fn print_sheet(input: &[u8]) {
+fn print_sheet(out: &impl Print, input: &[u8]) -> io::Result<()> {
     let mut space = [0u8; 400];
     let answer = filing_code::sheet_on_lines(input, &mut space);
-    print_pair(answer.refusal, answer.count);
+    print_pair(out, answer.refusal, answer.count)
 }
 
-fn print(page: u64, space: &[u8; ROOM], length: usize) {
+fn print(out: &impl Print, page: u64, space: &[u8; ROOM], length: usize) -> io::Result<()> {
     let input = answering::first_bytes(space, length);
     match page {
-        0 => print_number(input),
-        1 => listing::print(input),
-        2 => wording_code::print(input),
-        _ => print_sheet(input),
+        0 => print_number(out, input),
+        1 => listing::print(out, input),
+        2 => wording_code::print(out, input),
+        _ => print_sheet(out, input),
     }
 }
 
 // Answers a question, or answers false.
-pub fn answered(name: &[u8], text: &[u8]) -> bool {
+pub fn answered(out: &impl Print, name: &[u8], text: &[u8]) -> io::Result<bool> {
     let page = asking::place(b"number_on_line year_page notice_page sheet_on_lines", name);
     let mut space = [0u8; ROOM];
     let n = read_input(text, &mut space);
     if (3 < page) | (ROOM < n) {
-        return false;
+        return Ok(false);
     }
-    print(page, &space, n);
-    true
+    print(out, page, &space, n)?;
+    Ok(true)
 }

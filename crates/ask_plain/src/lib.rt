@@ -1,6 +1,9 @@
 // A line that asks nothing of sheets. One that begins with # is written out as it is; one that is no question, or has too few,
 // too many or bad words, is answered `not understood`.
+#![tactic(auto)]
+
 use line_code::LINE_END;
+use std::io;
 
 const HASH: u8 = 35;
 
@@ -11,32 +14,30 @@ fn is_heading(line: &[u8]) -> bool {
     false
 }
 
-pub fn answer(line: &[u8]) {
+pub fn answer(out: &impl Print, line: &[u8]) -> io::Result<()> {
     if is_heading(line) {
-        show::text(line);
-        show::end();
-        return;
+        show::text(out, line)?;
+        return show::end(out);
     }
     let name = asking::first_word(line);
     let words = asking::later_words(line);
-    if !(ask_lists::answered(name, asking::read_numbers(words))
-        | ask_pages::answered(name, words))
-    {
-        answering::print(ask_runs::answer(line));
+    let listed = ask_lists::answered(out, name, asking::read_numbers(words))?;
+    let paged = ask_pages::answered(out, name, words)?;
+    if !(listed | paged) {
+        return answering::print(out, ask_runs::answer(line));
     }
+    Ok(())
 }
 
 // What is left of a line that is too long to be understood. A proved loop has to end, and nothing says that a line does: so
-// it counts down, from a number that no run uses up.
-pub fn pass_line() {
-    let mut turns = u64::MAX;
-    while 0 < turns {
+// it counts, up to a number of turns that no run uses up.
+pub fn pass_line(rt: &(impl Input + Print)) -> io::Result<()> {
+    for _ in 0..u64::MAX {
         let mut byte = [0u8; 1];
-        let n = reading::read_lines(1, &mut byte);
+        let n = reading::read_lines(rt, 1, &mut byte)?;
         if (n == 0) | (byte[0] == LINE_END) {
-            answering::print(answering::no_answer());
-            return;
+            return answering::print(rt, answering::no_answer());
         }
-        turns -= 1;
     }
+    Ok(())
 }

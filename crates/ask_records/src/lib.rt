@@ -7,10 +7,11 @@
 //     record_back 1 2456928                a new record, set, and moved back
 //     record_walk 1 2456926 354            a new record, set, moved on so many times and then back as often: the refusal of the
 //                                          setting, and how many moves on and back left it as set afresh to the day due
+#![tactic(auto)]
+
 use answering::{Answer, fields, more, no_answer};
 use asking::Numbers;
 use record::{DayRecord, Moved};
-use std::num::{wrapping_add_u64, wrapping_sub_u64};
 
 fn new_record() -> DayRecord {
     DayRecord {
@@ -71,7 +72,7 @@ fn moved(on: bool, r: DayRecord) -> DayRecord {
     m.after
 }
 
-#[derive(Drop)]
+#[derive(Clone, Copy)]
 struct Course {
     pub record: DayRecord,
     pub agreed: u64,
@@ -80,16 +81,14 @@ struct Course {
 fn walked(on: bool, from: DayRecord, days: u64) -> Course {
     let mut r = from;
     let mut agreed: u64 = 0;
-    let mut i: u64 = 0;
-    while i < days {
+    for passed in 0..days {
         r = moved(on, r);
-        i += 1;
         let due = laws::pick(
             on,
-            wrapping_add_u64(from.day, i),
-            wrapping_sub_u64(from.day, i),
+            from.day.wrapping_add(passed + 1),
+            from.day.wrapping_sub(passed + 1),
         );
-        agreed = wrapping_add_u64(agreed, laws::pick(same(r, set(from.wing, due)), 1, 0));
+        agreed = agreed.wrapping_add(laws::pick(same(r, set(from.wing, due)), 1, 0));
     }
     Course { record: r, agreed }
 }

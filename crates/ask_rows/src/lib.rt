@@ -1,27 +1,42 @@
 // What a loaded sheet is answered with: a year's rows, and what a walk hands out.
-use show::{end, mixed, named, number, plain};
+#![tactic(auto)]
 
-fn print_place(place: loaded::RowsAnswer, refusal: u64, part: &[u8]) -> bool {
-    plain(place.refusal);
-    number(place.offset);
-    number(place.length);
-    named(b"; shown", refusal);
-    number(part.len() as u64);
-    named(b":", answering::sum(part));
-    end();
-    true
+use show::{end, mixed, named, number, plain};
+use std::io;
+
+fn print_place(
+    out: &impl Print,
+    place: loaded::RowsAnswer,
+    refusal: u64,
+    part: &[u8],
+) -> io::Result<bool> {
+    plain(out, place.refusal)?;
+    number(out, place.offset)?;
+    number(out, place.length)?;
+    named(out, b"; shown", refusal)?;
+    number(out, part.len() as u64)?;
+    named(out, b":", answering::sum(part))?;
+    end(out)?;
+    Ok(true)
 }
 
-pub fn print_rows(wing: u64, sheet: &[u8], year: u64) -> bool {
+pub fn print_rows(out: &impl Print, wing: u64, sheet: &[u8], year: u64) -> io::Result<bool> {
     let mut refusal = 0;
     let part = loaded_code::sheet_rows(wing, sheet, year, &mut refusal);
-    print_place(loaded_code::rows_place(wing, sheet, year), refusal, part)
+    print_place(out, loaded_code::rows_place(wing, sheet, year), refusal, part)
 }
 
-pub fn print_rows_of_two<'a>(number: u64, sheet_1: &'a [u8], sheet_2: &'a [u8], year: u64) -> bool {
+pub fn print_rows_of_two<'a>(
+    out: &impl Print,
+    number: u64,
+    sheet_1: &'a [u8],
+    sheet_2: &'a [u8],
+    year: u64,
+) -> io::Result<bool> {
     let mut refusal = 0;
     let part = loaded_code::sheets_rows(number, sheet_1, sheet_2, year, &mut refusal);
     print_place(
+        out,
         loaded_code::sheets_place(number, sheet_1, sheet_2, year),
         refusal,
         part,
@@ -29,12 +44,12 @@ pub fn print_rows_of_two<'a>(number: u64, sheet_1: &'a [u8], sheet_2: &'a [u8], 
 }
 
 // Whether there is a row, its first day, its length and its wing.
-fn print_row(row: loaded::Row) {
-    named(b"row", row.more);
-    number(row.first);
-    number(row.length);
-    number(row.wing);
-    end();
+fn print_row(out: &impl Print, row: loaded::Row) -> io::Result<()> {
+    named(out, b"row", row.more)?;
+    number(out, row.first)?;
+    number(out, row.length)?;
+    number(out, row.wing)?;
+    end(out)
 }
 
 fn with_row(sum: u64, row: loaded::Row) -> u64 {
@@ -42,39 +57,45 @@ fn with_row(sum: u64, row: loaded::Row) -> u64 {
 }
 
 // So many calls of a walk, printed or mixed into one number.
-fn walk(sheet: &[u8], begun: u64, calls: u64, printed: bool) -> u64 {
+fn walk(
+    out: &impl Print,
+    sheet: &[u8],
+    begun: u64,
+    calls: u64,
+    printed: bool,
+) -> io::Result<u64> {
     let mut sum = 0;
     let mut row = begun;
-    let mut i = 0;
-    while i < calls {
+    for _ in 0..calls {
         let step = loaded_code::step_at(sheet, row);
         sum = with_row(sum, step.row);
         if printed {
-            print_row(step.row);
+            print_row(out, step.row)?;
         }
         row = step.next;
-        i += 1;
     }
-    sum
+    Ok(sum)
 }
 
 // Too many calls are not understood: no sheet has so many rows.
-pub fn print_walk(wing: u64, sheet: &[u8], calls: u64) -> bool {
+pub fn print_walk(out: &impl Print, wing: u64, sheet: &[u8], calls: u64) -> io::Result<bool> {
     let begun = loaded_code::first_row(wing, sheet);
     if calls <= 10_000 {
-        named(b"walk", begun.refusal);
-        end();
-        walk(sheet, begun.row, calls, true);
+        named(out, b"walk", begun.refusal)?;
+        end(out)?;
+        walk(out, sheet, begun.row, calls, true)?;
     }
-    calls <= 10_000
+    Ok(calls <= 10_000)
 }
 
-pub fn print_walk_sum(wing: u64, sheet: &[u8], calls: u64) -> bool {
+pub fn print_walk_sum(out: &impl Print, wing: u64, sheet: &[u8], calls: u64) -> io::Result<bool> {
     if calls <= 10_000 {
-        plain(walk(sheet, loaded_code::first_row(wing, sheet).row, calls, false));
-        end();
+        let begun = loaded_code::first_row(wing, sheet);
+        let sum = walk(out, sheet, begun.row, calls, false)?;
+        plain(out, sum)?;
+        end(out)?;
     }
-    calls <= 10_000
+    Ok(calls <= 10_000)
 }
 
 // The rows of the part that is shown.
@@ -90,23 +111,27 @@ fn with_part(before: u64, part: &[u8]) -> u64 {
     sum
 }
 
-pub fn print_rows_sum(wing: u64, sheet: &[u8], first: u64, last: u64) -> bool {
-    let after = std::num::wrapping_sub_u64(last, first);
+pub fn print_rows_sum(
+    out: &impl Print,
+    wing: u64,
+    sheet: &[u8],
+    first: u64,
+    last: u64,
+) -> io::Result<bool> {
+    let after = last.wrapping_sub(first);
     if 10_000 < after {
-        return false;
+        return Ok(false);
     }
     let mut sum = 0;
     let mut refusal = 0;
-    let mut i = 0;
-    while i <= after {
-        let year = std::num::wrapping_add_u64(first, i);
+    for i in 0..=after {
+        let year = first.wrapping_add(i);
         sum = with_part(
             sum,
             loaded_code::sheet_rows(wing, sheet, year, &mut refusal),
         );
-        i += 1;
     }
-    plain(sum);
-    end();
-    true
+    plain(out, sum)?;
+    end(out)?;
+    Ok(true)
 }

@@ -2,9 +2,10 @@
 //
 //     sum new_year 1 10000            the fields of the answers to a run of numbers, each mixed into one number
 //     count marks 1 9999 0 4 1 7      in how many years of a run field 0 is 4 and field 1 is 7, and the first of them, or 0
+#![tactic(auto)]
+
 use answering::{Answer, FIELDS, fields, mixed, no_answer};
 use asking::{Numbers, place};
-use std::num::wrapping_add_u64;
 
 // The calls of one number, in the order of `ask_dates::of_day` and then of `ask_years::of_year`; and how many they are.
 fn place_of_one(name: &[u8]) -> u64 {
@@ -45,22 +46,20 @@ fn counts(answer: Answer, numbers: Numbers) -> bool {
 // A run is no longer than the range.
 fn run(counting: bool, call: u64, numbers: Numbers) -> Answer {
     let n = numbers.of;
-    let after = std::num::wrapping_sub_u64(n[1], n[0]);
+    let after = n[1].wrapping_sub(n[0]);
     if 4_000_000 < after {
         return no_answer();
     }
     let mut sums = no_answer();
     let mut counted: u64 = 0;
     let mut found = 0;
-    let mut i = 0;
-    while i <= after {
-        let number = wrapping_add_u64(n[0], i);
+    for i in 0..=after {
+        let number = n[0].wrapping_add(i);
         let answer = of_one(call, number);
         let one_more = counts(answer, numbers);
         sums = mixed(sums, answer);
         found = laws::pick(one_more & (counted == 0), number, found);
         counted += laws::pick(one_more, 1, 0);
-        i += 1;
     }
     if counting {
         return fields(&[counted, found]);

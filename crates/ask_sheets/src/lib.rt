@@ -18,42 +18,53 @@
 //                                  many are refused with each number
 //
 // What changes the sheet is answered with its length.
+#![tactic(auto)]
+
 use answering::first_bytes;
 use asking::Numbers;
+use std::io;
 
 // Questions that leave the sheet as it is; false if it is none of them.
-fn read<'a>(name: &[u8], numbers: Numbers, sheet: &'a [u8], other: &'a [u8]) -> bool {
+fn read<'a>(
+    out: &impl Print,
+    name: &[u8],
+    numbers: Numbers,
+    sheet: &'a [u8],
+    other: &'a [u8],
+) -> io::Result<bool> {
     let n = numbers.of;
     let names = b"sheet_rows sheets_rows walk sum_walk sum_rows fields cuts";
     match asking::asked(names, b"2222301", name, numbers) {
-        0 => ask_rows::print_rows(n[0], sheet, n[1]),
-        1 => ask_rows::print_rows_of_two(n[0], sheet, other, n[1]),
-        2 => ask_rows::print_walk(n[0], sheet, n[1]),
-        3 => ask_rows::print_walk_sum(n[0], sheet, n[1]),
-        4 => ask_rows::print_rows_sum(n[0], sheet, n[1], n[2]),
-        5 => ask_fields::print(sheet),
-        6 => ask_changes::print_cuts(n[0], sheet),
-        _ => false,
+        0 => ask_rows::print_rows(out, n[0], sheet, n[1]),
+        1 => ask_rows::print_rows_of_two(out, n[0], sheet, other, n[1]),
+        2 => ask_rows::print_walk(out, n[0], sheet, n[1]),
+        3 => ask_rows::print_walk_sum(out, n[0], sheet, n[1]),
+        4 => ask_rows::print_rows_sum(out, n[0], sheet, n[1], n[2]),
+        5 => ask_fields::print(out, sheet),
+        6 => ask_changes::print_cuts(out, n[0], sheet),
+        _ => Ok(false),
     }
 }
 
 // Questions that change the sheet.
 fn change(
+    out: &impl Print,
     name: &[u8],
     numbers: Numbers,
     sheet: &mut [u8],
     other: &[u8],
     held: &mut [u64; 3],
-) -> bool {
+) -> io::Result<bool> {
     let n = numbers.of;
     let names = b"sheet_write length put copy changes";
     match asking::asked(names, b"41325", name, numbers) {
-        0 => ask_held::write(n, sheet, held),
-        1 => ask_held::lengthen(n[0], sheet, held),
-        2 => ask_held::put(n, sheet, held[0]),
-        3 => ask_held::copy(n, other, sheet, held[0]),
-        4 => ask_changes::print_changes(n, sheet, held[0]),
+        0 => ask_held::write(out, n, sheet, held),
+        1 => ask_held::lengthen(out, n[0], sheet, held),
+        2 => ask_held::put(out, n, sheet, held[0]),
+        3 => ask_held::copy(out, n, other, sheet, held[0]),
+        4 => ask_changes::print_changes(out, n, sheet, held[0]),
         _ => read(
+            out,
             name,
             numbers,
             first_bytes(sheet, held[0] as usize),
@@ -64,7 +75,13 @@ fn change(
 
 // Answers a question, or answers false. `held` has the bytes of the sheet, those of the other one, and 1 if the sheet stands
 // in the second space.
-pub fn answered(line: &[u8], one: &mut [u8], two: &mut [u8], held: &mut [u64; 3]) -> bool {
+pub fn answered(
+    out: &impl Print,
+    line: &[u8],
+    one: &mut [u8],
+    two: &mut [u8],
+    held: &mut [u64; 3],
+) -> io::Result<bool> {
     let name = asking::first_word(line);
     let numbers = asking::read_numbers(asking::later_words(line));
     if asking::asked(b"exchange", b"0", name, numbers) == 0 {
@@ -72,10 +89,10 @@ pub fn answered(line: &[u8], one: &mut [u8], two: &mut [u8], held: &mut [u64; 3]
         held[1] = held[0];
         held[0] = other;
         held[2] = laws::pick(held[2] == 0, 1, 0);
-        return ask_held::told(other);
+        return ask_held::told(out, other);
     }
     if held[2] == 1 {
-        return change(name, numbers, two, one, held);
+        return change(out, name, numbers, two, one, held);
     }
-    change(name, numbers, one, two, held)
+    change(out, name, numbers, one, two, held)
 }

@@ -7,6 +7,8 @@
 //     rhodes_steps 5762      Rhodes' n, r, D; i' and f'; i and f; w; the delay and its cause
 //     delay 2 17 39 0 1      the delay and its cause, by the molad's weekday, hour and part, and whether the year and the one
 //                            before it are leap
+#![tactic(auto)]
+
 use answering::{Answer, fields, more, no_answer};
 use asking::Numbers;
 
@@ -47,7 +49,7 @@ fn routes_differ(year: u64) -> Answer {
 }
 
 fn marks(year: u64) -> Answer {
-    let before = newyear_code::kind(std::num::wrapping_sub_u64(year, 1));
+    let before = newyear_code::kind(year.wrapping_sub(1));
     let kind = newyear_code::kind(year);
     fields(&[newyear_code::new_year(year).cause, kind.kind, before.kind])
 }

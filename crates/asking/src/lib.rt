@@ -1,5 +1,7 @@
 // A question is a line of words, one blank apart: a name, then numbers.
-ghost use Rattle.io.specs.Counts.{IsPrefixLen};
+#![tactic(auto)]
+
+ghost use Rattle.std.specs.Prelude.{◌≡◌, ◌≤◌, length, take};
 
 mod numbers;
 
@@ -9,9 +11,9 @@ pub const BLANK: u8 = 32;
 
 // How many bytes the first word has.
 fn word_length(words: &[u8]) -> usize
-    ensures { IsPrefixLen result words.now }
+    ensures { (result ≤ length words.now) × (result ≡ length (take result words.now)) }
 {
-    bytes::scan::find(words, 0, words.len(), BLANK)
+    line_code::find(words, BLANK)
 }
 
 pub fn first_word<'a>(words: &'a [u8]) -> &'a [u8] {
@@ -28,17 +30,7 @@ pub fn later_words<'a>(words: &'a [u8]) -> &'a [u8] {
 }
 
 fn is(word: &[u8], name: &[u8]) -> bool {
-    if word.len() != name.len() {
-        return false;
-    }
-    let mut i = 0;
-    while i < word.len() {
-        if word[i] != name[i] {
-            return false;
-        }
-        i += 1;
-    }
-    true
+    word == name
 }
 
 // The place of a name, from 0, among names one blank apart.
@@ -46,12 +38,12 @@ pub fn place(names: &[u8], name: &[u8]) -> u64 {
     let mut at = 0;
     let mut place: u64 = 0;
     while at < names.len() {
-        let end = bytes::scan::find(names, at, names.len(), BLANK);
+        let end = at + word_length(&names[at..]);
         if is(&names[at..end], name) {
             return place;
         }
         at = end + 1;
-        place = std::num::wrapping_add_u64(place, 1);
+        place = place.wrapping_add(1);
     }
     place
 }

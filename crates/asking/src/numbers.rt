@@ -1,7 +1,7 @@
 // The numbers of a question: decimal figures that 64 bits hold. The first may have a minus sign.
 ghost use Rattle.std.specs.Prelude.{◌≤◌};
 
-use crate::BLANK;
+use crate::word_length;
 
 const MINUS: u8 = 45;
 
@@ -11,7 +11,7 @@ pub const MOST: usize = 8;
 // The largest number that has room for a sign.
 pub const LARGEST_SIGNED: u64 = 9_223_372_036_854_775_807;
 
-#[derive(Drop)]
+#[derive(Clone, Copy)]
 pub struct Numbers {
     // One more than there may be, if a word is no number or there are too many.
     pub count: usize,
@@ -20,7 +20,7 @@ pub struct Numbers {
     pub of: [u64; MOST],
 }
 
-#[derive(Drop)]
+#[derive(Clone, Copy)]
 struct Number {
     good: bool,
     of: u64,
@@ -60,10 +60,8 @@ fn figures(word: &[u8], from: usize) -> Number {
         good: from < word.len(),
         of: 0,
     };
-    let mut i = from;
-    while i < word.len() {
-        number = with_figure(number, worth(word[i]));
-        i += 1;
+    for byte in word.iter().skip(from) {
+        number = with_figure(number, worth(*byte));
     }
     number
 }
@@ -105,7 +103,7 @@ pub fn read_numbers(words: &[u8]) -> Numbers {
     };
     let mut at = 0;
     while at < words.len() {
-        let end = bytes::scan::find(words, at, words.len(), BLANK);
+        let end = at + word_length(&words[at..]);
         numbers = with_number(numbers, &words[at..end]);
         at = end + 1;
     }

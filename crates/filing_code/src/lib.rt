@@ -1,6 +1,10 @@
 // The code that writes what the sheet program writes.
+#![tactic(auto)]
+
 ghost use Rattle.std.specs.Prelude.{◌≡◌};
 ghost use Rattle.filing.specs.Answers.{sheet_on_lines, sheet_on_lines_buffer};
+
+use std::io;
 
 // Refusal 15 for a first line that holds no wing; 11 for a third that is not 1 to 100 years; 1 for a second that holds no
 // year, or one from which the last of the years lies outside; 10 for a buffer of too few bytes. A line that is not one to
@@ -17,16 +21,16 @@ pub fn sheet_on_lines(input: &[u8], out: &mut [u8]) -> lists::ListAnswer
     sheet_code::sheet_write(wing.number, first_year.number, years.number, out)
 }
 
-// The sheet that the input's three lines ask for, or its refusal.
-pub fn write(input: &[u8]) {
+// The sheet that the input's three lines ask for, or its refusal on standard error.
+pub fn write(out: &impl Print, errors: &impl Print, input: &[u8]) -> io::Result<()> {
     let mut space = [0u8; sheet_code::SHEET_ROOM];
     let told = sheet_on_lines(input, &mut space);
     if told.refusal != 0 {
-        show::say_refused(told.refusal);
-        return;
+        return show::say_refused(errors, told.refusal);
     }
     let size = told.count as usize;
-    if !show::file(&space[..size]) {
-        show::say(b"not written");
+    if !show::file(out, &space[..size]) {
+        return show::say(errors, b"not written");
     }
+    Ok(())
 }

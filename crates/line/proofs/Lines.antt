@@ -1,7 +1,7 @@
 -- Lines and figures: the first line and what follows it as parts of the input, one more figure, and how large a number
 -- figures make.
 use mathlib.Core.Path.{◌≡◌, refl, sym, ap, ◌∙◌}
-use mathlib.Core.Bool.{Bool, true, false, cond, false≢true}
+use mathlib.Core.Bool.{Bool, true, false, not, cond, false≢true}
 use mathlib.Core.List.{List, [], ◌∷◌, ◌++◌}
 use mathlib.Core.Logic.{by_cases}
 use Prim.Native.Nat.{ℕ, zero, suc, ◌+◌, ◌*◌, ◌-◌, ◌^◌, ◌≤◌, ◌<◌}
@@ -13,21 +13,20 @@ use borrow.Author.Tests.{not-true, le-ltb, ne_eqb}
 use lib.Dec.{eqb, lit<}
 use lib.ListN.{length, take, drop, length-append, length-drop}
 use lib.Seq.{take_all}
-use Rattle.bytes.specs.Bytes.{index_of, index_after}
+use Rattle.std.specs.List.{position_or_len}
 use Rattle.laws.specs.Runs.{each_of, elem}
 use Rattle.laws.proofs.Tests.{within, and_left, and_right, or_left, or_right}
 use Rattle.line.specs.Line.{first_line, after_line, figure, AllFigures, decimal}
 
 -- The first line ends where the first line feed stands.
-taken : (b : Bool) (byte : ℕ) (n : ℕ) (rest line : List ℕ) → take n rest ≡ line → take (index_after b n) (byte ∷ rest) ≡ cond b [] (byte ∷ line)
-unfolding index_after
+taken : (b : Bool) (byte : ℕ) (n : ℕ) (rest line : List ℕ) → take n rest ≡ line → take (cond (not b) (1 + n) 0) (byte ∷ rest) ≡ cond b [] (byte ∷ line)
 taken true byte n rest line e = refl
-taken false byte n rest line e = ap (λ (l : List ℕ). byte ∷ l) e
+taken false byte n rest line e = let q : 1 + n ≡ suc n = omega arith in rw q (ap (λ (l : List ℕ). byte ∷ l) e)
 
-pub to_line_feed : (input : List ℕ) → take (index_of 10 input) input ≡ first_line input
-unfolding index_of first_line
+pub to_line_feed : (input : List ℕ) → take (position_or_len (λ b. eqb b 10) input) input ≡ first_line input
+unfolding first_line
 to_line_feed [] = refl
-to_line_feed (byte ∷ rest) = taken (eqb byte 10) byte (index_of 10 rest) rest (first_line rest) (to_line_feed rest)
+to_line_feed (byte ∷ rest) = taken (eqb byte 10) byte (position_or_len (λ b. eqb b 10) rest) rest (first_line rest) (to_line_feed rest)
 
 -- The first line is what stands before the first line feed, or all if there is none; the lines after it are what stands
 -- behind that line feed, or none.

@@ -1,5 +1,8 @@
 // The code that reads the number on a line of input, and finds where the next line begins.
-ghost use Rattle.std.specs.Prelude.{◌≡◌, true, ◌≤◌, ◌-◌, length, take, drop};
+#![tactic(auto)]
+
+ghost use Rattle.std.specs.Prelude.{◌≡◌, true, ◌≤◌, ◌-◌, length, take, drop, ◌==◌};
+ghost use Rattle.std.specs.List.{position_or_len};
 ghost use Rattle.laws.specs.Runs.{each_of};
 ghost use Rattle.line.specs.Line.{first_line, after_line, figure};
 ghost use Rattle.line.specs.Line.{decimal};
@@ -14,11 +17,26 @@ const NOUGHT: u8 = 48;
 
 const NINE: u8 = 57;
 
+// Where a byte stands first, or how many bytes there are if it stands nowhere.
+pub fn find(bytes: &[u8], byte: u8) -> usize
+    ensures within { result ≤ length bytes.now }
+    ensures first { result ≡ position_or_len (λ b. b == byte) bytes.now }
+{
+    let mut i = 0;
+    while i < bytes.len() {
+        if bytes[i] == byte {
+            return i;
+        }
+        i += 1;
+    }
+    i
+}
+
 // How many bytes the first line has.
 fn line_length(input: &[u8]) -> usize
     ensures { (result ≤ length input.now) × (take result input.now ≡ first_line input.now) }
 {
-    bytes::scan::find(input, 0, input.len(), LINE_END)
+    find(input, LINE_END)
 }
 
 // Where the second line begins: after the first line feed, or at the end of the input if it has none.

@@ -1,47 +1,44 @@
 // What the programs print with: words, numbers, bytes, civil dates, refusals and line ends on standard output; what they
-// say on standard error; and one number for many.
+// say on standard error; and one number for many. A write that fails is told the caller.
+#![tactic(auto)]
+
 ghost use Rattle.std.specs.Prelude.{◌≡◌, ◌+◌, ◌*◌, ◌%◌, unsigned_abs};
 
-use libc::{STDERR_FILENO, STDOUT_FILENO};
+use std::io;
 
 // Bytes as they are, of a file that is no text. Answers true if all of them are written.
-pub fn file(bytes: &[u8]) -> bool {
-    io::write_all(STDOUT_FILENO, bytes)
+pub fn file(out: &impl Print, bytes: &[u8]) -> bool {
+    out.write_all(bytes).is_ok()
 }
 
-pub fn text(words: &[u8]) {
-    io::write_all(STDOUT_FILENO, words);
+pub fn text(out: &impl Print, words: &[u8]) -> io::Result<()> {
+    out.write_all(words)
 }
 
 // A number, with no blank.
-pub fn plain(n: u64) {
-    io::print_decimal(STDOUT_FILENO, n);
+pub fn plain(out: &impl Print, n: u64) -> io::Result<()> {
+    out.print(n)
 }
 
 // A number, after one blank.
-pub fn number(n: u64) {
-    io::write_all(STDOUT_FILENO, b" ");
-    plain(n);
+pub fn number(out: &impl Print, n: u64) -> io::Result<()> {
+    print!(out; " {n}")
 }
 
 // A number after words and one blank.
-pub fn named(words: &[u8], n: u64) {
-    text(words);
-    number(n);
+pub fn named(out: &impl Print, words: &[u8], n: u64) -> io::Result<()> {
+    text(out, words)?;
+    number(out, n)
 }
 
 // A number of a civil date or of the clock, which has two figures.
-pub fn two_figures(n: u64) {
-    if n < 10 {
-        io::write_all(STDOUT_FILENO, b"0");
-    }
-    plain(n);
+pub fn two_figures(out: &impl Print, n: u64) -> io::Result<()> {
+    print!(out; "{n:02}")
 }
 
 // A byte as two figures to the base 16, after one blank.
-pub fn byte(byte: u8) {
-    text(b" ");
-    io::print_hex(STDOUT_FILENO, byte as u64, 2);
+pub fn byte(out: &impl Print, byte: u8) -> io::Result<()> {
+    print!(out; " {byte:02x}")
 }
 
 // How far a number is from 0. The least i64 has no positive twin: one is added first, and again at the end.
@@ -56,48 +53,37 @@ pub fn magnitude(n: i64) -> u64
 }
 
 // A number with its sign, after one blank.
-pub fn signed(n: i64) {
-    if n < 0 {
-        text(b" -");
-    } else {
-        text(b" ");
-    }
-    io::print_decimal(STDOUT_FILENO, magnitude(n));
+pub fn signed(out: &impl Print, n: i64) -> io::Result<()> {
+    print!(out; " {n}")
 }
 
 // A civil date, after one blank: the year without padding, with a minus sign below zero; month and day of two figures.
-pub fn date(year: i64, month: u64, day: u64) {
-    signed(year);
-    text(b"-");
-    two_figures(month);
-    text(b"-");
-    two_figures(day);
+pub fn date(out: &impl Print, year: i64, month: u64, day: u64) -> io::Result<()> {
+    print!(out; " {year}-{month:02}-{day:02}")
 }
 
-pub fn end() {
-    io::write_all(STDOUT_FILENO, b"\n");
+pub fn end(out: &impl Print) -> io::Result<()> {
+    out.println("")
 }
 
-fn refused_on(stream: i32, refusal: u64) {
-    io::write_all(stream, b"refused ");
-    io::print_decimal(stream, refusal);
-    io::write_all(stream, b"\n");
+fn refused_on(stream: &impl Print, refusal: u64) -> io::Result<()> {
+    println!(stream; "refused {refusal}")
 }
 
 // What is printed in place of an answer.
-pub fn refused(refusal: u64) {
-    refused_on(STDOUT_FILENO, refusal);
+pub fn refused(out: &impl Print, refusal: u64) -> io::Result<()> {
+    refused_on(out, refusal)
 }
 
 // The same on standard error, by a program whose answers are no text.
-pub fn say_refused(refusal: u64) {
-    refused_on(STDERR_FILENO, refusal);
+pub fn say_refused(errors: &impl Print, refusal: u64) -> io::Result<()> {
+    refused_on(errors, refusal)
 }
 
 // A line of words on standard error.
-pub fn say(words: &[u8]) {
-    io::write_all(STDERR_FILENO, words);
-    io::write_all(STDERR_FILENO, b"\n");
+pub fn say(errors: &impl Print, words: &[u8]) -> io::Result<()> {
+    text(errors, words)?;
+    end(errors)
 }
 
 const PRIME: u64 = 1_000_000_007;

@@ -1,8 +1,11 @@
 // The code that prints what the notice program prints.
+#![tactic(auto)]
+
 ghost use Rattle.std.specs.Prelude.{◌≡◌};
 ghost use Rattle.wording.specs.Answers.{notice_on_lines, shown_date};
 
 use show::{date, end, number, refused, text, two_figures};
+use std::io;
 
 // Refusal 1 for a first line that holds no year; 2 for a second that holds no month of it. A line that is not one to five
 // figures has the number 0, which is neither.
@@ -30,43 +33,42 @@ pub fn shown_date(day: u64) -> civil::CivilDate
     civil_code::day_to_gregorian(day)
 }
 
-fn weekday_name(weekday: u64) {
+fn weekday_name(out: &impl Print, weekday: u64) -> io::Result<()> {
     match weekday {
-        1 => text(b"Sunday"),
-        2 => text(b"Monday"),
-        3 => text(b"Tuesday"),
-        4 => text(b"Wednesday"),
-        5 => text(b"Thursday"),
-        6 => text(b"Friday"),
-        _ => text(b"Saturday"),
+        1 => text(out, b"Sunday"),
+        2 => text(out, b"Monday"),
+        3 => text(out, b"Tuesday"),
+        4 => text(out, b"Wednesday"),
+        5 => text(out, b"Thursday"),
+        6 => text(out, b"Friday"),
+        _ => text(out, b"Saturday"),
     }
 }
 
 // The clock as HH:MM, after one blank, and the parts in words.
-fn clock(hour: u64, minute: u64, part: u64) {
-    text(b" ");
-    two_figures(hour);
-    text(b":");
-    two_figures(minute);
-    text(b" and");
-    number(part);
+fn clock(out: &impl Print, hour: u64, minute: u64, part: u64) -> io::Result<()> {
+    text(out, b" ")?;
+    two_figures(out, hour)?;
+    text(out, b":")?;
+    two_figures(out, minute)?;
+    text(out, b" and")?;
+    number(out, part)?;
     if part == 1 {
-        text(b" part");
+        text(out, b" part")
     } else {
-        text(b" parts");
+        text(out, b" parts")
     }
 }
 
 // The notice that the input's two lines ask for, or its refusal. Each that is answered has a date (`every_notice_dated`).
-pub fn print(input: &[u8]) {
+pub fn print(out: &impl Print, input: &[u8]) -> io::Result<()> {
     let told = notice_on_lines(input);
     if told.refusal != 0 {
-        refused(told.refusal);
-        return;
+        return refused(out, told.refusal);
     }
-    weekday_name(told.weekday);
+    weekday_name(out, told.weekday)?;
     let shown = shown_date(told.day);
-    date(shown.year, shown.month, shown.day);
-    clock(told.hour, told.minute, told.part);
-    end();
+    date(out, shown.year, shown.month, shown.day)?;
+    clock(out, told.hour, told.minute, told.part)?;
+    end(out)
 }
