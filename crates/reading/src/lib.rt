@@ -13,7 +13,7 @@ pub fn read_lines(input: &mut impl Read, lines: u64, space: &mut [u8]) -> io::Re
 {
     let mut n = 0;
     let mut wanted = lines;
-    while (n < space.len()) & (0 < wanted) {
+    'bytes: while (n < space.len()) & (0 < wanted) {
         let mut byte = [0u8; 1];
         let got = input.read(&mut byte)?;
         if got != 1 {
