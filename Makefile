@@ -85,4 +85,4 @@ uninstall:
 	@tools/install --remove
 
 clean:
-	rm -rf target
+	rm -rf target crates/*/out

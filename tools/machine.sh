@@ -1,25 +1,14 @@
 # shellcheck shell=bash disable=SC2034
-# Sourced. Archive and programs are for x86-64 Linux: what makes them, what compiles C and C++ for them on this machine,
-# and what runs them. On x86-64 that is the plain compiler. On another processor it is Debian's cross compiler and the
-# toolchain's emulator, which stands where `rt` itself finds it.
+# Sourced. The toolchain, and so the archive and the programs, are for x86-64 Linux: what makes them, and what compiles C and
+# C++ for them.
 
 fail() {
     echo "FAILED: $*" >&2
     exit 1
 }
 
-if [ "$(uname -m)" = x86_64 ]; then
-    EMULATED=no GCC=gcc GXX=g++ GCC_PACKAGE=gcc GXX_PACKAGE=g++ LIBC_PACKAGE=libc6-dev LINK=()
-else
-    # a static program needs no x86-64 loader or C library on the machine that runs it
-    EMULATED=yes GCC=x86_64-linux-gnu-gcc GXX=x86_64-linux-gnu-g++ GCC_PACKAGE=gcc-x86-64-linux-gnu
-    GXX_PACKAGE=g++-x86-64-linux-gnu LIBC_PACKAGE=libc6-dev-amd64-cross LINK=(-static)
-fi
-
-# need_rt: leaves the folder of the toolchain's loader, C library and emulator in `tools`.
 need_rt() {
     command -v rt >/dev/null || fail "the Rattle toolchain (rt) is not on the PATH, and it proves and builds all that is run here"
-    tools=${RATTLE_HOME:-$(dirname "$(dirname "$(readlink -f "$(command -v rt)")")")}/on/$(uname -m)/toolchain
 }
 
 # need COMMAND PACKAGE: installs the package if the command is not there.
@@ -31,8 +20,8 @@ need() {
 
 # The compiler, and the C library that a bare compiler package does not bring.
 need_c() {
-    need "$GCC" "$GCC_PACKAGE"
-    echo '#include <stdio.h>' | "$GCC" -fsyntax-only -x c - 2>/dev/null || install_package "$LIBC_PACKAGE" "the C headers are missing"
+    need gcc gcc
+    echo '#include <stdio.h>' | gcc -fsyntax-only -x c - 2>/dev/null || install_package libc6-dev "the C headers are missing"
 }
 
 install_package() { # PACKAGE WHY
@@ -45,53 +34,51 @@ install_package() { # PACKAGE WHY
         fail "$2, and apt-get could not install $1"
 }
 
-# run_here PROGRAM [WORD...]
-run_here() {
-    if [ "$EMULATED" = no ]; then
-        "$@"
-    else
-        need_rt
-        [ -x "$tools/bin/qemu-x86_64" ] || fail "the toolchain has no emulator for x86-64 programs here"
-        "$tools/bin/qemu-x86_64" "$@"
-    fi
-}
-
-# fresh FILE: it stands, no source is younger than it and, if rt is there to name its kit, that kit made it.
+# fresh FILE: it stands, no source is younger than it and, if rt is there to name its kit, that kit made it. rt itself works in
+# each crate's out/, and so changes the crate's folder.
 fresh() {
-    [ -f "$1" ] && [ -z "$(find crates crates.txt -newer "$1" -not -path '*/must-fail*' -print -quit)" ] || return 1
+    [ -f "$1" ] && [ ! crates.txt -nt "$1" ] || return 1
+    [ -z "$(find crates -mindepth 2 \( -name out -o -name must-fail \) -prune -o -newer "$1" -print -quit)" ] || return 1
     command -v rt >/dev/null || return 0
     [ -f "$1.kit" ] && [ "$(<"$1.kit")" = "$(rt version)" ]
 }
 
-# Keeps what rt says in a file, and passes its own lines on as they come: one for each crate that is proved.
+# Keeps what rt says in a file, and tells of each crate as it is proved.
 follow() { # FILE
-    local line
+    local line crate=''
     while IFS= read -r line; do
         printf '%s\n' "$line" >&3
-        case $line in 'rt: '*) printf '%s\n' "$line" >&2 ;; esac
+        case $line in
+        'rt: chose --jobs '*) crate=${line##* } ;;
+        'logic=proved '*) echo "$crate is proved" >&2 ;;
+        esac
     done 3>"$1"
 }
 
-# made FILE WHAT WORD...: leaves the file, made by `rt WORD...` if it is not fresh, and the kit's name in FILE.kit. All that
-# it says is on standard error.
+# taken CRATE BUILT FILE: what this kit has built in the crate's out/ becomes the file, with the kit's name in FILE.kit.
+taken() {
+    install -D "crates/$1/out/$2" "$3"
+    rt version >"$3.kit"
+}
+
+# made CRATE BUILT FILE WHAT WORD: leaves the file, taken from the crate's out/ where `rt WORD` makes it if it is not fresh. All
+# that is said is on standard error.
 made() {
-    local file=$1 what=$2 log=target/made.log
-    shift 2
-    fresh "$file" && return
+    local log=target/made.log
+    fresh "$3" && return
     need_rt
     mkdir -p target
     # one at a time: what another command is making may be this very file
     exec 8>target/making
     flock 8
-    if ! fresh "$file"; then
-        echo "proving and building $what, once until a source or the kit changes: up to three minutes on two cores" >&2
-        rt "$@" 2>&1 | follow $log || {
+    if ! fresh "$3"; then
+        echo "proving and building $4, once until a source or the kit changes: it takes minutes" >&2
+        (cd "crates/$1" && rt "$5" </dev/null) 2>&1 | follow $log || {
             cat $log >&2
-            fail "rt $*"
+            fail "rt $5, in crates/$1"
         }
-        [ -f "$file" ] || fail "rt $* left no $file; make clean has it begin from nothing"
-        touch "$file"
-        rt version >"$file.kit"
+        [ -f "crates/$1/out/$2" ] || fail "rt $5 left no crates/$1/out/$2; make clean has it begin from nothing"
+        taken "$1" "$2" "$3"
     fi
     exec 8>&-
 }
@@ -99,17 +86,16 @@ made() {
 # The archive of the C face.
 archive() {
     ARCHIVE=target/staticlib/libpanel.a
-    made "$ARCHIVE" "the library" staticlib panel
+    made panel libpanel.a "$ARCHIVE" "the library" lib
 }
 
-# program NAME: a program of the repository.
+# program NAME: a program of the repository. rt builds one where it runs it: here on an empty input.
 program() {
-    made "target/bin/$1" "the program $1" check "$1"
+    made "$1" "$1" "target/bin/$1" "the program $1" run
 }
 
-# run_program NAME: runs it over the toolchain's own C library, as `rt` does.
+# run_program NAME: runs it.
 run_program() {
     program "$1"
-    need_rt
-    run_here "$tools/lib/ld-linux-x86-64.so.2" --library-path "$tools/lib" "target/bin/$1"
+    "target/bin/$1"
 }

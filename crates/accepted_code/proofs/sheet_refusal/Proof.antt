@@ -2,7 +2,7 @@ use borrow.Author.Rules.{rules}
 use mathlib.Core.Path.{◌≡◌, sym, ◌∙◌, ap}
 use mathlib.Core.Bool.{false, not, cond}
 use native.Mathlib.Omega.{arith}
-use borrow.Author.Tests.{lt-ltb, le-ltb, not-false}
+use borrow.Author.Tests.{lt-ltb, le-ltb}
 use lib.Dec.{ltb}
 use lib.ListN.{length}
 use Rattle.laws.specs.Runs.{outside}
@@ -73,14 +73,14 @@ unfolding loaded_refusal
 asked c = let t = c.before.before.before in rw (winged t.before.before.before, long t.before.before, few t, ends c)
 
 returns-5 : tie.Need-returns-then-not-all_placed
-returns-5 c = rw (asked c.before.before, ← c.before.all_Placed.ensures, c.if-not-all_placed.true)
+returns-5 c = rw (asked c.before.before, ← c.before.all_placed.ensures, c.if-not-all_placed.true)
 
 -- And before the content is compared.
 placed_asked :
     (c : tie.Else-not-all_placed) →
     let a = c.before.before.before.before.before.before.before.before.before.before.before.args in
     loaded_refusal a.wing a.sheet.now ≡ cond (differs a.wing a.sheet.now) 19 0
-placed_asked c = rw (asked c.before.before, ← c.before.all_Placed.ensures, c.if-not-all_placed.false)
+placed_asked c = rw (asked c.before.before, ← c.before.all_placed.ensures, c.if-not-all_placed.false)
 
 returns-6 : tie.Need-returns-then-not-content_agrees
 returns-6 c = rw (placed_asked c.before.before, compared c.before, c.if-not-content_agrees.true)
@@ -103,7 +103,7 @@ content_agrees_requires c κs =
     let t = s.before in
     let bytes = t.before.before.before.before.before.before.args.sheet.now in
     let y = (strange bytes).passes (rw (few t, ends e)) in
-    let p = all_fit bytes (sym c.before.all_Placed.ensures ∙ not-false _ c.if-not-all_placed.false) in
+    let p = all_fit bytes (sym c.before.all_placed.ensures ∙ c.if-not-all_placed.false) in
     rw (s.two_at-first_year.ensures.0, t.before.two_at-years.ensures.0)
     (y.1.0.0, (y.0.1, (omega (arith, y.0.0, y.1.1.1), (omega (arith, p.size), rows_inside bytes p))))
 

@@ -33,7 +33,7 @@ start c = c.before.before.before.before.before.before
 in_time : (c : tie.After-hours_needed-hours) → c.hours_needed-hours.result ≤ 3000000
 in_time c =
     let s = start c.before in
-    rw c.hours_needed-hours.ensures (hours_small s.args.figures s.args.stretch.length s.pre.0 s.pre.1.1.1)
+    rw c.hours_needed-hours.ensures (hours_small s.args.figures s.args.stretch.length s.requires.0 s.requires.1.1.1)
 
 add_if3 : tie.Need-overflow_add-from
 add_if3 c = let l = in_time c.before in let p = (start c.before.before).requires in search rules
@@ -63,7 +63,7 @@ planned_spec =
     mul_need
     (search rules)
     returns-2
-    (λ c κs. let s = start c in (s.pre.0, small s))
+    (λ c κs. let s = start c in (s.requires.0, small s))
     (search rules)
     (search rules)
     add_if3

@@ -4,7 +4,6 @@ use mathlib.Core.Path.{◌≡◌, refl, sym, ◌∙◌}
 use mathlib.Core.Bool.{true}
 use Prim.Native.Nat.{◌≤◌, ◌-◌}
 use native.Mathlib.Omega.{arith}
-use borrow.Author.Tests.{not-true, not-false}
 use Rattle.laws.specs.Runs.{every}
 use Rattle.newyear_code.proofs.Spanned.{spans_own}
 use Rattle.content.specs.Content.{content_agrees}
@@ -36,7 +35,7 @@ returns c =
     let l = t.before in
     let a = l.before.before.args in
     let e = rw y.before.year_span.ensures.year at y.year_agrees.ensures in
-    sym (year_differs a.wing a.sheet.now a.first_year a.years l.loop-i.i t.loop-i-test.true (sym e ∙ not-true _ c.if-not-year_agrees.true))
+    sym (year_differs a.wing a.sheet.now a.first_year a.years l.loop-i.i t.loop-i-test.true (sym e ∙ c.if-not-year_agrees.true))
 
 loop-again : tie.Need-loop-i-preserved invariant-loop decreases-loop
 loop-again c =
@@ -45,7 +44,7 @@ loop-again c =
     let l = t.before in
     let a = l.before.before.args in
     let e = rw y.before.year_span.ensures.year at y.year_agrees.ensures in
-    (omega arith, rw (year_more a.wing a.sheet.now a.first_year l.loop-i.i, l.loop-i.invariant.1, ← e) (not-false _ c.if-not-year_agrees.false))
+    (omega arith, rw (year_more a.wing a.sheet.now a.first_year l.loop-i.i, l.loop-i.invariant.1, ← e) c.if-not-year_agrees.false)
 
 returns-2 : tie.Need-returns invariant-loop decreases-loop
 returns-2 c =

@@ -28,7 +28,7 @@ one_more :
     (c : tie.After-put_row invariant-loop decreases-loop) →
     let l = c.before.before.before.before.before in
     let a = l.before.before.before.args in
-    c.put_row.new.0 ≡ sets a.out.now a.at (joined (row_of a.wing a.list.now) (l.loop-k.k + 1))
+    c.put_row.new.out ≡ sets a.out.now a.at (joined (row_of a.wing a.list.now) (l.loop-k.k + 1))
 unfolding row_of
 one_more c =
     let l = c.before.before.before.before.before in

@@ -16,7 +16,7 @@ listed :
     (c : tie.After-year_rows-entries) →
     let a = c.before.before.before.args in
     let list = stretch_rows (table_of a.wing) a.span.year in
-    (c.year_rows-entries.result ≡ count list) × (take c.year_rows-entries.result c.year_rows-entries.new.1.1.0 ≡ list)
+    (c.year_rows-entries.result ≡ count list) × (take c.year_rows-entries.result c.year_rows-entries.new.out ≡ list)
 unfolding overwrite
 listed c =
     let a = c.before.before.before.args in

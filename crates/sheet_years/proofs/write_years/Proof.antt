@@ -39,7 +39,7 @@ one_more :
     (c : tie.After-put_entry invariant-loop decreases-loop) →
     let l = c.before.before.before.before.before.before.before.before in
     let a = l.before.before.args in
-    c.put_entry.new.0 ≡ written a.wing a.first_year a.years a.out.now (l.loop-i.i + 1)
+    c.put_entry.new.out ≡ written a.wing a.first_year a.years a.out.now (l.loop-i.i + 1)
 unfolding entry_of
 one_more c =
     let w = c.before.before.before.before in

@@ -30,7 +30,7 @@ listed :
     (c : tie.After-year_rows-wanted) →
     let a = c.before.before.before.before.before.before.args in
     let list = stretch_rows (table_of a.wing) a.year in
-    (c.year_rows-wanted.result ≡ length list) × (take c.year_rows-wanted.result c.year_rows-wanted.new.1.1.0 ≡ list)
+    (c.year_rows-wanted.result ≡ length list) × (take c.year_rows-wanted.result c.year_rows-wanted.new.out ≡ list)
 unfolding overwrite
 listed c =
     let y = c.before.before.year_span.ensures.year in

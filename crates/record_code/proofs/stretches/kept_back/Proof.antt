@@ -2,17 +2,17 @@ use borrow.Author.Rules.{rules}
 use mathlib.Core.Path.{◌≡◌, sym, ◌∙◌}
 use mathlib.Core.Bool.{true, false}
 use Prim.Native.Nat.{◌-◌}
-use borrow.Author.Tests.{le-leb, lt-leb, not-true, not-false}
+use borrow.Author.Tests.{le-leb, lt-leb}
 use Rattle.record.specs.Steps.{lasts}
 use Rattle.record_code.proofs.stretches.kept_back.Statement.{statement}
 use Rattle.record_code.proofs.stretches.kept_back.Tie as tie
 
 -- The stretch lasts.
 still : (c : tie.Else-not-lasts) → let r = c.before.before.before.args.r in lasts r (r.day - 1) ≡ true
-still c = sym c.before.lasts.ensures ∙ not-false _ c.if-not-lasts.false
+still c = sym c.before.lasts.ensures ∙ c.if-not-lasts.false
 
 returns : tie.Need-returns-then-not-lasts
-returns c = let over : c.before.lasts.result ≡ false = not-true _ c.if-not-lasts.true in rw (← c.before.lasts.ensures, over)
+returns c = let over : c.before.lasts.result ≡ false = c.if-not-lasts.true in rw (← c.before.lasts.ensures, over)
 
 returns-2 : tie.Need-returns-then-r-day
 returns-2 c =

@@ -3,7 +3,6 @@ use borrow.Author.Rules.{rules}
 use mathlib.Core.Path.{◌≡◌, refl, sym, ◌∙◌}
 use Prim.Native.Nat.{◌≤◌, ◌-◌}
 use native.Mathlib.Omega.{arith}
-use borrow.Author.Tests.{not-true, not-false}
 use Rattle.laws.specs.Search.{run_start}
 use Rattle.hebrew.proofs.Walked.{date_small}
 use Rattle.rest.specs.Wings.{table_of}
@@ -39,14 +38,14 @@ returns : tie.Need-returns-then-not-rest_on invariant-loop decreases-loop
 returns c =
     let r = c.before in
     let l = r.before.before.before in
-    let e = told r ∙ not-true r.rest_on.result c.if-not-rest_on.true in
+    let e = told r ∙ c.if-not-rest_on.true in
     (sym (l.loop-first.invariant.1 ∙ back_here _ l.loop-first.first (omega arith) e), l.loop-first.invariant.0)
 
 loop-again : tie.Need-loop-first-preserved invariant-loop decreases-loop
 loop-again c =
     let r = c.before in
     let l = r.before.before.before in
-    let e = told r ∙ not-false r.rest_on.result c.if-not-rest_on.false in
+    let e = told r ∙ c.if-not-rest_on.false in
     (omega arith, l.loop-first.invariant.1 ∙ back_on _ l.loop-first.first (omega arith) e)
 
 returns-2 : tie.Need-returns invariant-loop decreases-loop

@@ -2,7 +2,6 @@
 use borrow.Author.Rules.{rules}
 use mathlib.Core.Path.{◌≡◌, refl, sym, ◌∙◌, ap}
 use mathlib.Core.Bool.{Bool, true, false, not, ◌&&◌}
-use mathlib.Core.Logic.{⊎_elim}
 use Prim.Native.Nat.{ℕ, ◌≤◌, ◌+◌, ◌-◌}
 use native.Mathlib.Omega.{arith}
 use lib.Dec.{ltb}
@@ -20,6 +19,7 @@ use Rattle.stretches.proofs.Growing.{ends, run_more, run_few, rows_yes, rows_no,
 use Rattle.stretches.proofs.OfKind.{rows_in_room}
 use Rattle.stretch.proofs.Walk.{walked_small, walked_rests}
 use Rattle.stretches_code.proofs.writing.write_rows.Statement.{statement}
+use Rattle.stretches_code.proofs.writing.write_rows.Lts.{then-rests-run, else-rests-run}
 use Rattle.stretches_code.proofs.writing.write_rows.Tie as tie
 
 abbrev invariant-loop : tie.invariant-loop-date
@@ -113,21 +113,21 @@ loop-again c =
     let k = l.loop-date.date.after in
     let run : c.before.pick-run.result ≡ run_before rest (k + 1) = rw (run_more rest k, told r, ← i.2) c.before.pick-run.ensures.0 in
     rw (next c)
-    (⊎_elim
-    (λ v.
-    let y = rows_yes rest a.new_year k (ended r true v.0.taken) in
-    let h = room (record { before = r; if2 = v.0 }) in (
-      omega arith,
-      refl,
-      run,
-      simp (y, length-append) (omega (arith, v.3)),
-      simp (v.2, length-set) i.4,
-      simp (v.2, y, i.5, i.2) (over_two _ (rows_at rest a.new_year k) _ _ l.loop-date.n (sym i.3) (omega (arith, h))),
-    ))
-    (λ v.
-    let y = rows_no rest a.new_year k (ended r false v.0.left) in
-    (omega arith, refl, run, simp y (omega (arith, v.2)), simp v.1 i.4, simp (v.1, y) i.5))
-    j.if-rests-run.branch)
+    (elim j.if-rests-run.branch [
+      then-rests-run v ↦
+        let y = rows_yes rest a.new_year k (ended r true v.if-rests-run.true) in
+        let h = room (record { before = r; if-rests-run = v.if-rests-run }) in (
+          omega arith,
+          refl,
+          run,
+          simp (y, length-append) (omega (arith, v.n-is)),
+          simp (v.out-is, length-set) i.4,
+          simp (v.out-is, y, i.5, i.2) (over_two _ (rows_at rest a.new_year k) _ _ l.loop-date.n (sym i.3) (omega (arith, h))),
+        )
+      | else-rests-run v ↦
+        let y = rows_no rest a.new_year k (ended r false v.if-rests-run.false) in
+        (omega arith, refl, run, simp y (omega (arith, v.n-is)), simp v.out-is i.4, simp (v.out-is, y) i.5)
+    ])
 
 returns : tie.Need-returns invariant-loop decreases-loop
 returns c =
