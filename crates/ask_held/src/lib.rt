@@ -26,8 +26,8 @@ fn fill(out: &mut [u8]) {
 // How many bytes from a place on hold what they held.
 fn kept(out: &[u8], from: usize) -> u64 {
     let mut kept = 0;
-    for (i, byte) in out.iter().enumerate().skip(from) {
-        kept += laws::pick(*byte == pattern(i), 1, 0);
+    for i in from..out.len() {
+        kept += laws::pick(out[i] == pattern(i), 1, 0);
     }
     kept
 }
