@@ -5,13 +5,15 @@
 use ask_held::ROOM;
 use line_code::LINE_END;
 use std::io;
+use std::io::Read;
 
 // A line of so many bytes or more is not understood.
 const LONGEST: usize = 1000;
 
 // The first bytes of a line.
 fn turn(
-    rt: &(impl Input + Print),
+    input: &mut impl Read,
+    out: &impl Print,
     space: &[u8],
     one: &mut [u8],
     two: &mut [u8],
@@ -20,27 +22,28 @@ fn turn(
     let n = line_code::find(space, LINE_END);
     let line = answering::first_bytes(space, n);
     if n == LONGEST {
-        return ask_plain::pass_line(rt);
+        return ask_plain::pass_line(input, out);
     }
-    if !ask_sheets::answered(rt, line, one, two, held)? {
-        return ask_plain::answer(rt, line);
+    if !ask_sheets::answered(out, line, one, two, held)? {
+        return ask_plain::answer(out, line);
     }
     Ok(())
 }
 
 // Nothing says that the input ends: so the turns are counted, up to a number that no run uses up.
 fn main(rt: HostRuntime) -> io::Result<()> {
+    let mut input = rt.stdin();
     let mut one = [0u8; ROOM];
     let mut two = [0u8; ROOM];
     let mut held = [0u64; 3];
     for _ in 0..u64::MAX {
         let mut space = [0u8; LONGEST];
-        let n = reading::read_lines(&rt, 1, &mut space)?;
+        let n = reading::read_lines(&mut input, 1, &mut space)?;
         if n == 0 {
             return Ok(());
         }
         let bytes: &[u8] = &space;
-        turn(&rt, &bytes[..n], &mut one, &mut two, &mut held)?;
+        turn(&mut input, &rt, &bytes[..n], &mut one, &mut two, &mut held)?;
     }
     Ok(())
 }

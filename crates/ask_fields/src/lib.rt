@@ -15,12 +15,7 @@ fn number_at(sheet: &[u8], at: usize, bytes: u8) -> u64 {
 }
 
 // Numbers one after another, in as many bytes each as `widths` tells; and where the next begins.
-fn print_numbers(
-    out: &impl Print,
-    sheet: &[u8],
-    from: usize,
-    widths: &[u8],
-) -> io::Result<usize> {
+fn print_numbers(out: &impl Print, sheet: &[u8], from: usize, widths: &[u8]) -> io::Result<usize> {
     let mut at = from;
     show::text(out, b" ->")?;
     for width in widths {
@@ -63,7 +58,14 @@ pub fn print(out: &impl Print, sheet: &[u8]) -> io::Result<bool> {
     let index = number_at(sheet, 8, 4);
     let rows = number_at(sheet, 12, 4);
     print_items(out, sheet, 0, 1, 16, b"\x02\x02\x04\x04\x04")?;
-    print_items(out, sheet, index, number_at(sheet, 0, 2), 8, b"\x04\x02\x02")?;
+    print_items(
+        out,
+        sheet,
+        index,
+        number_at(sheet, 0, 2),
+        8,
+        b"\x04\x02\x02",
+    )?;
     print_items(out, sheet, rows, number_at(sheet, 4, 4), 6, b"\x04\x01\x01")?;
     Ok(true)
 }

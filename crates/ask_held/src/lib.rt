@@ -26,19 +26,14 @@ fn fill(out: &mut [u8]) {
 // How many bytes from a place on hold what they held.
 fn kept(out: &[u8], from: usize) -> u64 {
     let mut kept = 0;
-    for (i, byte) in out.iter().enumerate().skip(from) {
-        kept += laws::pick(*byte == pattern(i), 1, 0);
+    for i in from..out.len() {
+        kept += laws::pick(out[i] == pattern(i), 1, 0);
     }
     kept
 }
 
 // Answers how many bytes the sheet has.
-fn written(
-    out: &impl Print,
-    n: [u64; MOST],
-    space: &mut [u8],
-    room: usize,
-) -> io::Result<u64>
+fn written(out: &impl Print, n: [u64; MOST], space: &mut [u8], room: usize) -> io::Result<u64>
     requires { room ≤ length space.old }
 {
     let lent = &mut space[..room];
@@ -125,12 +120,7 @@ fn put_bytes(at: u64, bytes: u64, number: u64, out: &mut [u8]) {
 }
 
 // The place, how many bytes, at most eight, and the number that they are to hold.
-pub fn put(
-    out: &impl Print,
-    n: [u64; MOST],
-    space: &mut [u8],
-    length: u64,
-) -> io::Result<bool> {
+pub fn put(out: &impl Print, n: [u64; MOST], space: &mut [u8], length: u64) -> io::Result<bool> {
     if length < n[0] {
         return Ok(false);
     }

@@ -101,7 +101,13 @@ fn with_year(sum: u64, of_fasts: bool, wing: u64, year: u64) -> u64 {
 }
 
 // False for a run of too many years.
-fn print_sum(out: &impl Print, of_fasts: bool, wing: u64, first: u64, last: u64) -> io::Result<bool> {
+fn print_sum(
+    out: &impl Print,
+    of_fasts: bool,
+    wing: u64,
+    first: u64,
+    last: u64,
+) -> io::Result<bool> {
     let after = last.wrapping_sub(first);
     if 10_000 < after {
         return Ok(false);

@@ -4,6 +4,7 @@
 
 use line_code::LINE_END;
 use std::io;
+use std::io::Read;
 
 const HASH: u8 = 35;
 
@@ -31,12 +32,12 @@ pub fn answer(out: &impl Print, line: &[u8]) -> io::Result<()> {
 
 // What is left of a line that is too long to be understood. A proved loop has to end, and nothing says that a line does: so
 // it counts, up to a number of turns that no run uses up.
-pub fn pass_line(rt: &(impl Input + Print)) -> io::Result<()> {
+pub fn pass_line(input: &mut impl Read, out: &impl Print) -> io::Result<()> {
     for _ in 0..u64::MAX {
         let mut byte = [0u8; 1];
-        let n = reading::read_lines(rt, 1, &mut byte)?;
+        let n = reading::read_lines(input, 1, &mut byte)?;
         if (n == 0) | (byte[0] == LINE_END) {
-            return answering::print(rt, answering::no_answer());
+            return answering::print(out, answering::no_answer());
         }
     }
     Ok(())

@@ -23,7 +23,12 @@ fn print_place(
 pub fn print_rows(out: &impl Print, wing: u64, sheet: &[u8], year: u64) -> io::Result<bool> {
     let mut refusal = 0;
     let part = loaded_code::sheet_rows(wing, sheet, year, &mut refusal);
-    print_place(out, loaded_code::rows_place(wing, sheet, year), refusal, part)
+    print_place(
+        out,
+        loaded_code::rows_place(wing, sheet, year),
+        refusal,
+        part,
+    )
 }
 
 pub fn print_rows_of_two<'a>(
@@ -57,13 +62,7 @@ fn with_row(sum: u64, row: loaded::Row) -> u64 {
 }
 
 // So many calls of a walk, printed or mixed into one number.
-fn walk(
-    out: &impl Print,
-    sheet: &[u8],
-    begun: u64,
-    calls: u64,
-    printed: bool,
-) -> io::Result<u64> {
+fn walk(out: &impl Print, sheet: &[u8], begun: u64, calls: u64, printed: bool) -> io::Result<u64> {
     let mut sum = 0;
     let mut row = begun;
     for _ in 0..calls {

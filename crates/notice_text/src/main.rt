@@ -6,6 +6,6 @@ use std::io;
 fn main(rt: HostRuntime) -> io::Result<()> {
     // Twice five figures, each with what follows them, tell the answer (crate wording, theorem `enough`).
     let mut space = [0u8; 12];
-    let n = reading::read_lines(&rt, 2, &mut space)?;
+    let n = reading::read_lines(&mut rt.stdin(), 2, &mut space)?;
     wording_code::print(&rt, &space[..n])
 }

@@ -1,4 +1,4 @@
-// How the programs read: the first lines of standard input.
+// How the programs read: the first lines of standard input. A read that fails is told the caller.
 #![tactic(auto)]
 
 ghost use Rattle.std.specs.Prelude.{◌≡◌, ◌≤◌, length, take, IfOk};
@@ -8,15 +8,14 @@ use std::io::Read;
 
 // Puts the first `lines` lines, each with its line feed, at the start of `space`, or as much of them as there is room for,
 // and answers how many bytes came. It reads byte by byte, so that lines typed by hand are answered when the last one ends.
-pub fn read_lines(input: &impl Input, lines: u64, space: &mut [u8]) -> io::Result<usize>
+pub fn read_lines(input: &mut impl Read, lines: u64, space: &mut [u8]) -> io::Result<usize>
     ensures { IfOk result (λ n. (n ≤ length space.new) × (n ≡ length (take n space.new))) }
 {
-    let mut reader = input.reader();
     let mut n = 0;
     let mut wanted = lines;
-    while (n < space.len()) & (0 < wanted) {
+    'bytes: while (n < space.len()) & (0 < wanted) {
         let mut byte = [0u8; 1];
-        let got = reader.read(&mut byte)?;
+        let got = input.read(&mut byte)?;
         if got != 1 {
             return Ok(n);
         }

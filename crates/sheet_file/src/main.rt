@@ -7,6 +7,6 @@ fn main(rt: HostRuntime) -> io::Result<()> {
     // Nineteen bytes tell what is written and, unless the second line has more than six, the refusal (crate filing, theorem
     // `enough`).
     let mut space = [0u8; 19];
-    let n = reading::read_lines(&rt, 3, &mut space)?;
+    let n = reading::read_lines(&mut rt.stdin(), 3, &mut space)?;
     filing_code::write(&rt, &rt.stderr(), &space[..n])
 }

@@ -6,6 +6,6 @@ use std::io;
 fn main(rt: HostRuntime) -> io::Result<()> {
     // Five figures and what follows them tell the answer (crate line, theorem `enough`).
     let mut space = [0u8; 6];
-    let n = reading::read_lines(&rt, 1, &mut space)?;
+    let n = reading::read_lines(&mut rt.stdin(), 1, &mut space)?;
     listing::print(&rt, &space[..n])
 }

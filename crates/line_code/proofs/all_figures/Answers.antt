@@ -1,4 +1,4 @@
-use Rattle.std.proofs.Common.{◌≡◌, true, false, ◌<◌, length, arith, get_or, rules}
+use Rattle.std.proofs.Common.{◌≡◌, true, false, ◌<◌, length, arith, get_or}
 use lib.Seq.{drop-cons, drop-length}
 use mathlib.Core.Path.{◌∙◌}
 use native.Mathlib.Numerals.{add-one}

@@ -1,8 +1,7 @@
-use Rattle.std.proofs.Common.{◌≡◌, ◌<◌, length, take, arith, rules}
-use lib.Seq.{take-suc, take-length}
-use mathlib.Core.Path.{refl, sym}
+use Rattle.std.proofs.Common.{◌<◌, length, take, arith}
+use lib.Seq.{take-suc}
+use mathlib.Core.Path.{sym}
 use native.Mathlib.Numerals.{add-one}
-use Rattle.line.specs.Line.{decimal}
 use Rattle.line.proofs.Lines.{figure_at, decimal_none, decimal_more, below_more}
 use Rattle.line_code.proofs.decimal.Goals as goal
 

@@ -1,7 +1,7 @@
 use Rattle.std.proofs.Common.{◌≡◌, true, false, ◌<◌, ◌==◌, length, arith, get_or, eq-eqb}
 use lib.Seq.{drop-cons, drop-length}
 use borrow.Author.Tests.{ne_eqb}
-use mathlib.Core.Path.{sym, ◌∙◌}
+use mathlib.Core.Path.{◌∙◌}
 use native.Mathlib.Numerals.{add-one}
 use Rattle.line_code.proofs.find.Goals as goal
 

@@ -1,7 +1,5 @@
-use Rattle.std.proofs.Common.{◌≡◌, true, false, not, ◌||◌, length, take, arith}
-use borrow.Author.Tests.{not-false}
+use Rattle.std.proofs.Common.{◌≡◌, true, false, not, ◌||◌, length, take}
 use lib.Seq.{length-take-le}
-use mathlib.Core.Path.{sym, ◌∙◌}
 use Rattle.laws.specs.Runs.{outside}
 use Rattle.line.specs.Answers.{line_answer, line_of}
 use Rattle.line_code.proofs.number_on_line.Goals as goal
