@@ -78,7 +78,7 @@ enum bd_refusal {
     BD_BAD_CIVIL_MONTH = 6,         /* civil month outside 1..12 */
     BD_BAD_CIVIL_DAY = 7,           /* civil day outside its month */
     BD_CIVIL_DATE_OUT_OF_RANGE = 8, /* a good civil date whose day lies outside the range */
-    BD_NO_STRETCH = 9,              /* no stretch in range ends on or after the day; for charging: begins after it */
+    BD_NO_STRETCH = 9,              /* no stretch in range ends on or after the day */
     BD_BUFFER_TOO_SHORT = 10,       /* the lent buffer has no room for the list or the sheet */
     BD_BAD_YEAR_COUNT = 11,         /* years of a sheet not 1..100 */
     BD_BAD_WING = 15,               /* wing or sheet named neither 1 nor 2 */
@@ -86,6 +86,13 @@ enum bd_refusal {
     BD_BAD_SHEET_YEARS = 17,        /* its count of years not 1..100, or its first or last year outside 1..9999 */
     BD_BAD_SHEET_LAYOUT = 18,       /* its offsets, counts of rows and length do not fit each other */
     BD_BAD_SHEET_CONTENT = 19       /* its rows or its years' lengths are not the calendar's for the wing named */
+};
+
+/* Why charging has no answer, besides: for it BD_NO_STRETCH means that no stretch in range begins after the day. */
+enum bd_charge_refusal {
+    BD_BAD_FIGURE = 12,            /* draw, capacity or rate outside 1..1,000,000, or charge above capacity */
+    BD_NEED_EXCEEDS_CAPACITY = 13, /* the stretch needs more than the bank can hold */
+    BD_HOURS_DO_NOT_FIT = 14       /* the hours of charging do not fit before the stretch */
 };
 
 /* The range of day numbers: 1 Tishri 1 and 29 Elul 9999. */
@@ -350,13 +357,6 @@ bd_list_answer bd_rest_days(uint64_t wing, uint64_t year, uint64_t *out, size_t 
 bd_list_answer bd_stretches(uint64_t wing, uint64_t year, uint64_t *out, size_t length);
 
 /* ---- Charging ---- */
-
-/* The refusals of bd_charge_start alone. bournedrouth_names.h has no names for them yet. */
-enum bd_charge_refusal {
-    BD_BAD_FIGURE = 12,             /* draw, capacity or rate outside 1..1,000,000, or charge above capacity */
-    BD_NEED_EXCEEDS_CAPACITY = 13,  /* the stretch needs more than the bank can hold */
-    BD_HOURS_DO_NOT_FIT = 14        /* the hours of charging do not fit before the stretch */
-};
 
 /*
  * When to begin charging for the next stretch that begins after a day. If a stretch holds the day, the answer is for the

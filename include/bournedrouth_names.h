@@ -59,7 +59,7 @@ static inline const char *bd_refusal_name(uint64_t refusal)
         "no stretch of rest days is left in the calendar's range",
         "the buffer is too short for the list or the sheet",
         "the count of years is outside 1 to 100",
-        "?", "?", "?", /* 12 to 14 are no refusals */
+        "?", "?", "?", /* 12 to 14 are refusals of charging alone */
         "the wing or sheet named is neither 1 nor 2",
         "the sheet has fewer than 16 bytes",
         "the sheet's years are not 1 to 100 of the years 1 to 9999",
@@ -67,6 +67,19 @@ static inline const char *bd_refusal_name(uint64_t refusal)
         "the sheet's rows or its years' lengths are not the calendar's for the wing named",
     };
     return bd_name_at(names, sizeof names / sizeof *names, refusal);
+}
+
+/* The same of a refusal of bd_charge_start. */
+static inline const char *bd_charge_refusal_name(uint64_t refusal)
+{
+    static const char *const names[] = {
+        "the draw, capacity or rate is outside 1 to 1,000,000 watt-hours, or the charge is above the capacity",
+        "the stretch needs more than the bank can hold",
+        "the hours of charging do not fit before the stretch, and the bank will not hold enough for it",
+    };
+    if (refusal == BD_NO_STRETCH) return "no further stretch of rest days is left in the calendar's range";
+    if (refusal < BD_BAD_FIGURE || refusal > BD_HOURS_DO_NOT_FIT) return bd_refusal_name(refusal);
+    return bd_name_at(names, sizeof names / sizeof *names, refusal - BD_BAD_FIGURE);
 }
 
 #endif

@@ -73,6 +73,22 @@ static void refusals(void)
     for (size_t i = 0; i < COUNT(BEYOND); ++i) same_text("no name", bd_refusal_name(BEYOND[i]), "?");
 }
 
+/* Those of charging: three of its own, one that is said otherwise, and the others as everywhere. */
+static void charge_refusals(void)
+{
+    static const char *const own[] = {
+        [BD_NO_STRETCH] = "no further stretch of rest days is left in the calendar's range",
+        [BD_BAD_FIGURE] = "the draw, capacity or rate is outside 1 to 1,000,000 watt-hours, or the charge is above the capacity",
+        [BD_NEED_EXCEEDS_CAPACITY] = "the stretch needs more than the bank can hold",
+        [BD_HOURS_DO_NOT_FIT] = "the hours of charging do not fit before the stretch, and the bank will not hold enough for it",
+    };
+    asking("the refusals of charging");
+    for (uint64_t refusal = 0; refusal < 25; ++refusal)
+        same_text("name", bd_charge_refusal_name(refusal),
+                  refusal < COUNT(own) && own[refusal] != NULL ? own[refusal] : bd_refusal_name(refusal));
+    for (size_t i = 1; i < COUNT(BEYOND); ++i) same_text("no name", bd_charge_refusal_name(BEYOND[i]), "?");
+}
+
 /* A table of two names, asked by place. */
 static void places(void)
 {
@@ -97,6 +113,7 @@ void names(void)
     weekdays();
     causes();
     refusals();
+    charge_refusals();
     places();
     end();
 }
