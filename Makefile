@@ -5,16 +5,16 @@
 help:
 	@sed -n 's/^    \(make .*\)/\1/p' README.md
 
-# What is typed for these names is text. It goes to the programs by the environment, and neither make nor a shell reads a
-# command in it. Blanks around it are dropped: make itself drops those before it.
-TEXTS := YEAR MONTH WING FIRST YEARS DATE TIME SUNSET KEYS DRAW CAPACITY RATE CHARGE
+# What is typed for YEAR, MONTH, WING, FIRST, YEARS, DATE, TIME, SUNSET and KEYS is text. It goes to the programs by the
+# environment, and neither make nor a shell reads a command in it. Blanks around it are dropped: make itself drops those
+# before it.
 define text
 ifneq ($$(origin $(1)),undefined)
 override $(1) := $$(strip $$(value $(1)))
 export $(1)
 endif
 endef
-$(foreach name,$(TEXTS),$(eval $(call text,$(name))))
+$(foreach name,YEAR MONTH WING FIRST YEARS DATE TIME SUNSET KEYS,$(eval $(call text,$(name))))
 
 # Without a YEAR, the year that it is now.
 year:
@@ -33,14 +33,9 @@ sheet:
 sheet-show:
 	@examples/run sheet_show "$${WING-}" "$${FILE-}"
 
-# Without a WING, wing 1; without a DATE, today. Of the last four, where one is typed, each that is missing is refused as an
-# empty one is. CC names another compiler, for x86-64 Linux.
+# Without a WING, wing 1; without a DATE, today. CC names another compiler, for x86-64 Linux.
 panel:
-	@set -- "$${WING-1}" "$${DATE-today}" "$${TIME-}" "$${SUNSET-}" "$${KEYS-}"; \
-	case "$${DRAW+.}$${CAPACITY+.}$${RATE+.}$${CHARGE+.}" in \
-	?*) set -- "$$@" "$${DRAW-}" "$${CAPACITY-}" "$${RATE-}" "$${CHARGE-}" ;; \
-	esac; \
-	examples/run panel "$$@"
+	@examples/run panel "$${WING-1}" "$${DATE-today}" "$${TIME-}" "$${SUNSET-}" "$${KEYS-}"
 
 # The file whose lines are asked; without a FILE, what is typed.
 ask:

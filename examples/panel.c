@@ -1,20 +1,16 @@
 /*
  * A battery room's panel, to start from: for a wing, a civil date, a time and the hall's sunset it shows the Hebrew
  * day, whether the bank carries the load, the days left to the first day of the wing's stretch of rest days, and for
- * the kitchens the next fast; and for what the hall draws in a day, what the bank can hold, what the charger gives in an
- * hour and what the bank holds, in watt-hours, when charging must begin. Then keys may be pressed: + and - show the days
- * after and before it.
+ * the kitchens the next fast. Then keys may be pressed: + and - show the days after and before it.
  *
  *     panel 1 2014-09-24 20:00 18:52
  *     panel 1 2014-09-24 20:00 18:52 +++-
- *     panel 1 2014-09-28 20:00 18:52 + 20000 60000 1000 12000
  *     panel 2 today
  *
  * The panel keeps one record of a day. It is set once, and moved by a day at sunset and at each key.
  *
  * A Hebrew day begins in the evening. The library knows no sunset, so the panel sees to it: before the hall's sunset it
- * shows the civil day, and from sunset on the day after. So with the hours of charging: the library counts them from
- * 18:00, and the panel from the hall's sunset, at which the bank takes the load.
+ * shows the civil day, and from sunset on the day after.
  *
  * The days left have a sign, and they decide: on the second and third day of a stretch they are -1 and -2, and the bank
  * stays on the load. Where the record says that no stretch is left the bank is off the load. After a refusal nothing is
@@ -32,18 +28,12 @@
 #include <bournedrouth_names.h>
 
 /* Times of a day are in minutes after midnight. */
-enum { HOUR = 60, NOON = 12 * HOUR, USUAL_SUNSET = 18 * HOUR, DAY = 24 * HOUR };
+enum { HOUR = 60, NOON = 12 * HOUR, USUAL_SUNSET = 18 * HOUR };
 
 typedef struct {
     int64_t year;
     uint64_t month, date, time, sunset;
 } moment;
-
-/* In watt-hours: what the hall draws in a day, the bank can hold, the charger gives in an hour, and the bank holds. */
-typedef struct {
-    bool asked;
-    uint64_t draw, capacity, rate, charge;
-} charging;
 
 /* Reads `least` to `most` figures and leaves *text behind them. */
 static bool figures(const char **text, int least, int most, uint64_t *number)
@@ -65,8 +55,8 @@ static bool mark(const char **text, char c)
     return true;
 }
 
-/* A number of one to nineteen figures, which 64 bits hold; whether it is a good one is the library's to say. */
-static bool read_number(const char *text, uint64_t *number) { return figures(&text, 1, 19, number) && *text == '\0'; }
+/* A number of one to nineteen figures, which 64 bits hold; whether it is a wing is the library's to say. */
+static bool read_wing(const char *text, uint64_t *wing) { return figures(&text, 1, 19, wing) && *text == '\0'; }
 
 /* YYYY-MM-DD: a year of one to nine figures, with a minus sign where it is below zero; two figures for each other. */
 static bool read_date(const char *text, moment *m)
@@ -116,25 +106,9 @@ static bool read_moment(const char *date, const char *at, const char *sunset, mo
     return *sunset == '\0' || (read_time(sunset, &m->sunset) && m->sunset > NOON);
 }
 
-/* All four or none. */
-static bool read_charging(int words, char *const *word, charging *c)
-{
-    c->asked = words > 0;
-    if (!c->asked) return true;
-    return words == 4 && read_number(word[0], &c->draw) && read_number(word[1], &c->capacity) &&
-           read_number(word[2], &c->rate) && read_number(word[3], &c->charge);
-}
-
 static bool since_sunset(const moment *m) { return m->time >= m->sunset; }
 
 static void show_clock(uint64_t time) { printf("%02" PRIu64 ":%02" PRIu64, time / HOUR, time % HOUR); }
-
-static void show_civil(uint64_t day)
-{
-    bd_civil_date date = bd_day_to_gregorian(day);
-    printf("%" PRId64 "-%02" PRIu64 "-%02" PRIu64 " %s", date.year, date.month, date.day,
-           bd_weekday_name(bd_weekday(day).weekday));
-}
 
 /* A month's name. Adar's alone wants the length of its year, the record's. */
 static const char *month_name(const bd_record *record, uint64_t month)
@@ -176,9 +150,8 @@ static void show_fast(const bd_record *record)
 /* Shows the wing, a moment of a civil day, the Hebrew day that it lies in, the bank, and the next fast. */
 static void show_now(const moment *m, uint64_t civil, const bd_record *record)
 {
-    printf("wing %" PRIu64 ", ", record->wing);
-    show_civil(civil);
-    printf(" ");
+    printf("wing %" PRIu64 ", %" PRId64 "-%02" PRIu64 "-%02" PRIu64 " %s ", record->wing, m->year, m->month, m->date,
+           bd_weekday_name(bd_weekday(civil).weekday));
     show_clock(m->time);
     printf(", %s sunset (", since_sunset(m) ? "since" : "before");
     show_clock(m->sunset);
@@ -199,36 +172,6 @@ static int refused(uint64_t wing, const char *date, const char *when, uint64_t r
     return 1;
 }
 
-/* Shows a minute that is counted on from day to day, as the civil day's number and the time of that day make it. */
-static void show_minute(uint64_t minute)
-{
-    show_civil(minute / DAY);
-    printf(" ");
-    show_clock(minute % DAY);
-}
-
-/*
- * Shows when charging must begin. Day J begins with hour 24 x J, at the sunset of civil day J - 1. Whether the charger is
- * running the panel does not know: of an hour that is past it says that charging must have begun by then.
- */
-static int show_charging(const charging *c, const char *date, const moment *m, uint64_t civil, const bd_record *record)
-{
-    bd_charge_answer told = bd_charge_start(record->wing, record->day, c->draw, c->capacity, c->rate, c->charge);
-    if (told.refusal != BD_DONE) return refused(record->wing, date, ", charging", told.refusal);
-    uint64_t start = (told.start / 24 - 1) * DAY + m->sunset + told.start % 24 * HOUR;
-    if (told.hours == 0) {
-        printf("no charging needed");
-    } else {
-        printf("charging must %s by ", start < civil * DAY + m->time ? "have begun" : "begin");
-        show_minute(start);
-        printf(" and takes %" PRIu64 " hour%s,", told.hours, told.hours == 1 ? "" : "s");
-    }
-    printf(" for %" PRIu64 " rest day%s from ", told.length, told.length == 1 ? "" : "s");
-    show_minute((told.first - 1) * DAY + m->sunset);
-    printf("\n");
-    return 0;
-}
-
 /* Moves the record by each key, + or -, and shows the day that it then stands on. */
 static int press(const char *keys, const char *date, bd_record *record)
 {
@@ -247,7 +190,7 @@ static int press(const char *keys, const char *date, bd_record *record)
 }
 
 /* A bad wing is told before a bad date: the day of a refused date is 0, and bd_record_set looks at the wing first. */
-static int show(uint64_t wing, const char *date, const moment *m, const charging *c, const char *keys)
+static int show(uint64_t wing, const char *date, const moment *m, const char *keys)
 {
     bd_record record = {0};
     bd_civil_day civil = bd_gregorian_to_day(m->year, m->month, m->date);
@@ -257,30 +200,24 @@ static int show(uint64_t wing, const char *date, const moment *m, const charging
     if (refusal == BD_DONE && since_sunset(m)) refusal = bd_record_next(&record);
     if (refusal != BD_DONE) return refused(wing, date, since_sunset(m) ? " since sunset" : "", refusal);
     show_now(m, civil.day, &record);
-    int status = c->asked ? show_charging(c, date, m, civil.day, &record) : 0;
-    return press(keys, date, &record) != 0 ? 1 : status;
+    return press(keys, date, &record);
 }
 
 int main(int argc, char **argv)
 {
     uint64_t wing;
     moment m;
-    charging c;
-    const int more = argc > 6 ? argc - 6 : 0;
     const char *at = argc > 3 ? argv[3] : "", *sunset = argc > 4 ? argv[4] : "", *keys = argc > 5 ? argv[5] : "";
-    if (argc < 3 || !read_number(argv[1], &wing) || !read_moment(argv[2], at, sunset, &m) ||
-        keys[strspn(keys, "+-")] != '\0' || !read_charging(more, argv + argc - more, &c)) {
-        fprintf(stderr, "usage: panel WING DATE [TIME [SUNSET [KEYS [DRAW CAPACITY RATE CHARGE]]]]\n"
+    if (argc < 3 || argc > 6 || !read_wing(argv[1], &wing) || !read_moment(argv[2], at, sunset, &m) ||
+        keys[strspn(keys, "+-")] != '\0') {
+        fprintf(stderr, "usage: panel WING DATE [TIME [SUNSET [KEYS]]]\n"
                         "WING is 1 or, for the guest wing, 2;\n"
                         "DATE is a Gregorian date, as 2014-09-27 or -3760-09-07, or the word today;\n"
                         "TIME and SUNSET are hours and minutes, as 18:52, and the sunset is after noon;\n"
                         "without TIME it is noon, and for today the time that it is now;\n"
                         "without SUNSET it is 18:00, the calendar's hour and not your hall's sunset;\n"
-                        "KEYS are + and -, each of which shows the day after or before the one shown;\n"
-                        "DRAW is what the hall draws in a day, CAPACITY what the bank can hold, RATE what the charger\n"
-                        "gives in an hour, CHARGE what the bank holds (on a rest day: will hold when the stretch ends):\n"
-                        "watt-hours, as 20000, and all four or none\n");
+                        "KEYS are + and -, each of which shows the day after or before the one shown\n");
         return 2;
     }
-    return show(wing, argv[2], &m, &c, keys);
+    return show(wing, argv[2], &m, keys);
 }

@@ -81,9 +81,6 @@ enum bd_refusal {
     BD_NO_STRETCH = 9,              /* no stretch in range ends on or after the day; for charging: begins after it */
     BD_BUFFER_TOO_SHORT = 10,       /* the lent buffer has no room for the list or the sheet */
     BD_BAD_YEAR_COUNT = 11,         /* years of a sheet not 1..100 */
-    BD_BAD_FIGURE = 12,             /* draw, capacity or rate outside 1..1,000,000, or charge above capacity */
-    BD_NEED_EXCEEDS_CAPACITY = 13,  /* the stretch needs more than the bank can hold */
-    BD_HOURS_DO_NOT_FIT = 14,       /* the hours of charging do not fit before the stretch */
     BD_BAD_WING = 15,               /* wing or sheet named neither 1 nor 2 */
     BD_SHEET_TOO_SHORT = 16,        /* a loaded sheet of fewer than 16 bytes */
     BD_BAD_SHEET_YEARS = 17,        /* its count of years not 1..100, or its first or last year outside 1..9999 */
@@ -353,6 +350,13 @@ bd_list_answer bd_rest_days(uint64_t wing, uint64_t year, uint64_t *out, size_t 
 bd_list_answer bd_stretches(uint64_t wing, uint64_t year, uint64_t *out, size_t length);
 
 /* ---- Charging ---- */
+
+/* The refusals of bd_charge_start alone. bournedrouth_names.h has no names for them yet. */
+enum bd_charge_refusal {
+    BD_BAD_FIGURE = 12,             /* draw, capacity or rate outside 1..1,000,000, or charge above capacity */
+    BD_NEED_EXCEEDS_CAPACITY = 13,  /* the stretch needs more than the bank can hold */
+    BD_HOURS_DO_NOT_FIT = 14        /* the hours of charging do not fit before the stretch */
+};
 
 /*
  * When to begin charging for the next stretch that begins after a day. If a stretch holds the day, the answer is for the

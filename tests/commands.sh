@@ -1,8 +1,7 @@
 # shellcheck shell=bash disable=SC2154
 # Sourced by tests of commands, after tools/machine.sh: runs a command and holds what it prints, what it says on standard
 # error and how it ends. The test names a folder of its own in `out`.
-unset MAKEFLAGS MFLAGS MAKELEVEL YEAR MONTH WING FIRST YEARS FILE DATE TIME SUNSET KEYS DRAW CAPACITY RATE CHARGE
-unset PREFIX DESTDIR CC
+unset MAKEFLAGS MFLAGS MAKELEVEL YEAR MONTH WING FIRST YEARS FILE DATE TIME SUNSET PREFIX DESTDIR CC
 
 # run WORD...
 run() {

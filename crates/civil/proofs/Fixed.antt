@@ -1,6 +1,6 @@
 -- The words of this crate are these numbers.
 use mathlib.Core.Path.{◌≡◌, refl}
-use Prim.Native.Nat.{ℕ, ◌+◌}
+use Prim.Native.Nat.{ℕ}
 use native.Mathlib.Omega.{arith}
 use lib.IntN.{ℤ, pos, negsuc}
 use Rattle.civil.specs.Calendar.{julian, gregorian, julian_leap, gregorian_leap, month_days, days_before, day_of}

@@ -4,7 +4,7 @@ use mathlib.Core.Logic.{by_cases}
 use Prim.Native.Nat.{ℕ, ◌+◌, ◌-◌, ◌≤◌, ◌<◌}
 use native.Mathlib.Omega.{arith}
 use native.Mathlib.Decide.{dec_lt}
-use Rattle.civil.specs.Calendar.{Calendar, year_days, years_days, first_raised, days_to, day_of}
+use Rattle.civil.specs.Calendar.{Calendar, first_raised, days_to, day_of}
 use Rattle.civil.proofs.MonthStarts.{january}
 use Rattle.civil.proofs.Years.{years_rise}
 use Rattle.civil.proofs.Dates.{Covers}

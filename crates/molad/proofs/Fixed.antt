@@ -1,7 +1,7 @@
 -- The words of this crate are these numbers.
 use mathlib.Core.Path.{◌≡◌, refl}
 use mathlib.Core.Bool.{false≢true}
-use Prim.Native.Nat.{ℕ, ◌+◌, ◌%◌}
+use Prim.Native.Nat.{◌+◌, ◌%◌}
 use native.Mathlib.Omega.{arith}
 use Rattle.molad.specs.Years.{leap, months_in, months_to, months_before}
 use Rattle.molad.specs.Molad.{no_month, months_of_year_before, molad_after, molad_parts, molad_day, molad_time}

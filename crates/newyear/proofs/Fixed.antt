@@ -10,7 +10,7 @@ use Rattle.molad.specs.Units.{parts_in_day}
 use Rattle.molad.specs.Years.{leap, months_in, last_year, InYears, last_new_year, InNewYears}
 use Rattle.molad.specs.Molad.{molad_after}
 use Rattle.molad.proofs.Closed.{months_closed}
-use Rattle.newyear.specs.NewYear.{new_year, year_length, InYear}
+use Rattle.newyear.specs.NewYear.{year_length, InYear}
 use Rattle.newyear.specs.Kinds.{kind_of, kind_number}
 use Rattle.newyear.specs.Answers.{new_year_on, new_year_answer, year_answer, kind_answer, year_of_day_answer}
 use Rattle.newyear.specs.declared.NewYearAnswer.{NewYearAnswer}

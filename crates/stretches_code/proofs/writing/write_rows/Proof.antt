@@ -114,19 +114,19 @@ loop-again c =
     let run : c.before.pick-run.result ≡ run_before rest (k + 1) = rw (run_more rest k, told r, ← i.2) c.before.pick-run.ensures.0 in
     rw (next c)
     (elim j.if-rests-run.branch [
-      then-rests-run v ↦
-        let y = rows_yes rest a.new_year k (ended r true v.if-rests-run.true) in
-        let h = room (record { before = r; if-rests-run = v.if-rests-run }) in (
-          omega arith,
-          refl,
-          run,
-          simp (y, length-append) (omega (arith, v.n-is)),
-          simp (v.out-is, length-set) i.4,
-          simp (v.out-is, y, i.5, i.2) (over_two _ (rows_at rest a.new_year k) _ _ l.loop-date.n (sym i.3) (omega (arith, h))),
-        )
+      | then-rests-run v ↦
+          let y = rows_yes rest a.new_year k (ended r true v.if-rests-run.true) in
+          let h = room (record { before = r; if-rests-run = v.if-rests-run }) in (
+            omega arith,
+            refl,
+            run,
+            simp (y, length-append) (omega (arith, v.n-is)),
+            simp (v.out-is, length-set) i.4,
+            simp (v.out-is, y, i.5, i.2) (over_two _ (rows_at rest a.new_year k) _ _ l.loop-date.n (sym i.3) (omega (arith, h))),
+          )
       | else-rests-run v ↦
-        let y = rows_no rest a.new_year k (ended r false v.if-rests-run.false) in
-        (omega arith, refl, run, simp y (omega (arith, v.n-is)), simp v.out-is i.4, simp (v.out-is, y) i.5)
+          let y = rows_no rest a.new_year k (ended r false v.if-rests-run.false) in
+          (omega arith, refl, run, simp y (omega (arith, v.n-is)), simp v.out-is i.4, simp (v.out-is, y) i.5)
     ])
 
 returns : tie.Need-returns invariant-loop decreases-loop
