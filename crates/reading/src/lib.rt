@@ -1,7 +1,7 @@
 // How the programs read: the first lines of standard input. A read that fails is told the caller.
 #![tactic(auto)]
 
-ghost use Rattle.std.specs.Prelude.{◌≡◌, ◌≤◌, length, take, IfOk};
+ghost use Rattle.std.specs.Prelude.{◌≡◌, ◌≤◌, length, take, IfOk, OnErr};
 
 use std::io;
 use std::io::Read;
@@ -9,7 +9,8 @@ use std::io::Read;
 // Puts the first `lines` lines, each with its line feed, at the start of `space`, or as much of them as there is room for,
 // and answers how many bytes came. It reads byte by byte, so that lines typed by hand are answered when the last one ends.
 pub fn read_lines(input: &mut impl Read, lines: u64, space: &mut [u8]) -> io::Result<usize>
-    ensures { IfOk result (λ n. (n ≤ length space.new) × (n ≡ length (take n space.new))) }
+    ensures ok { IfOk result (λ n. (n ≤ length space.new) × (n ≡ length (take n space.new))) }
+    ensures err { OnErr result (length space.new ≡ length space.old) }
 {
     let mut n = 0;
     let mut wanted = lines;
