@@ -11,7 +11,7 @@ use Rattle.laws.specs.Promise.{Asked, Promised}
 use Rattle.laws.specs.Runs.{every}
 use Rattle.laws.proofs.Tests.{and_left, and_right, passed, equal}
 use Rattle.laws.proofs.Joins.{total_more, total_grows}
-use Rattle.laws.proofs.Promises.{Catches, ranged, either, asks, answered}
+use Rattle.laws.proofs.Promises.{Catches, ranged, either, asks}
 use Rattle.molad.specs.Years.{last_year}
 use Rattle.layout.specs.Layout.{rows_offset}
 use Rattle.rest.specs.Wings.{out_of_wings}
@@ -20,7 +20,7 @@ use Rattle.sheet.specs.Sheet.{most_years}
 use Rattle.sheet.specs.Promises.{offset_told, rows_told, rows_told_before}
 use Rattle.content.proofs.Told.{sheet_agrees, agrees_sheet}
 use Rattle.accepted.specs.Check.{years_told, first_told, count_told, index_told, rows_at_told, strange_years, entry_placed, index_placed, placed, differs, of_loaded, loaded_refusal}
-use Rattle.accepted.specs.Promises.{WritersYears, Placed, OfCalendar, asked_of_loaded, PromisedRefusal}
+use Rattle.accepted.specs.Promises.{WritersYears, Placed, OfCalendar, asked_of_loaded}
 
 -- One number tells what is given.
 by_number :
@@ -113,11 +113,3 @@ module _ (wing : ℕ) (bytes : List ℕ) where
       asks (refused 18) (misplaced bytes) (omega arith) (number 18) (besides 18) (λ fits.
       asks (refused 19) (calendar years fits) (omega arith) (number 19) (besides 19) (λ _.
       f years fits)))))
-
-  pub refusal_promised : PromisedRefusal wing bytes (loaded_refusal wing bytes)
-  unfolding loaded_refusal
-  refusal_promised = loaded_promised (λ n. n) 0 (λ n. refl) (λ n. tt) (λ _ _. answered refl tt)
-
-  -- Bytes that are accepted.
-  pub accepted : loaded_refusal wing bytes ≡ 0 → (16 ≤ length bytes) × (WritersYears bytes × (Placed bytes × OfCalendar wing bytes))
-  accepted z = let m = (refusal_promised.done.0 z).1 in (m.0, (m.1.0, (m.1.1.0, m.1.1.1.0)))

@@ -13,7 +13,7 @@ use Rattle.sheet.proofs.ReadBack.{sheet_of}
 use Rattle.content.proofs.Written.{the_writers}
 use Rattle.accepted.specs.Check.{years_told, first_told, loaded_refusal}
 use Rattle.accepted.specs.Promises.{WritersYears, Placed, Writers}
-use Rattle.accepted.proofs.Accepted.{refusal_promised, accepted}
+use Rattle.accepted.proofs.Refusal.{refusal_promised, accepted}
 
 -- What header and index tell of a sheet is all that is asked of it.
 pub sheet_accepted :

@@ -1,4 +1,5 @@
 pub mod Accepted
+pub mod Refusal
 pub mod Exactly
 pub mod Answers
 pub mod Fixed

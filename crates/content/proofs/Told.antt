@@ -1,29 +1,27 @@
 -- What is compared is what a sheet tells: the content agrees exactly if header and index lead to the calendar's years.
 use mathlib.Core.Path.{◌≡◌, refl, sym, ◌∙◌}
-use mathlib.Core.Bool.{Bool, true}
+use mathlib.Core.Bool.{true}
 use mathlib.Core.List.{List, [], ◌∷◌}
 use mathlib.Core.Logic.{by_cases}
 use Prim.Native.Nat.{ℕ, zero, suc, ◌+◌, ◌*◌, ◌/◌, ◌≤◌, ◌<◌}
 use native.Mathlib.Omega.{arith}
 use native.Mathlib.Decide.{ℕ_discrete}
-use borrow.Author.Tests.{eq-eqb, eqb-true}
-use lib.Dec.{eqb}
 use lib.ListN.{length, get_or, get_or-append}
 use lib.Seq.{get_or-append-add}
 use Rattle.laws.specs.Joined.{joined}
-use Rattle.laws.proofs.Tests.{and_left, and_right, at, passed}
+use Rattle.laws.proofs.Tests.{at, passed}
 use Rattle.laws.proofs.Joins.{joined_length, joined_alike, total_same}
 use Rattle.layout.specs.Reading.{number_at}
-use Rattle.newyear.specs.NewYear.{year_length}
 use Rattle.rest.specs.Wings.{table_of}
 use Rattle.rest.proofs.Passed.{tables_pass}
-use Rattle.stretches.specs.Stretches.{stretch_rows}
 use Rattle.stretches.specs.Promises.{StretchesOf}
 use Rattle.stretches.proofs.WholeList.{stretches_of, two_each}
 use Rattle.sheet.specs.Sheet.{rows_in}
-use Rattle.sheet.specs.Promises.{offset_told, rows_told, length_told, rows_told_before, stretches_told, SheetOf}
+use Rattle.sheet.specs.Promises.{offset_told, rows_told, rows_told_before, stretches_told, SheetOf}
 use Rattle.sheet.proofs.Pairs.{pair_at, pairs_joined}
-use Rattle.content.specs.Content.{row_agrees, rows_agree, year_agrees, content_agrees}
+use Rattle.content.specs.Content.{year_agrees, content_agrees}
+use Rattle.content.proofs.Calendars.{first_at, days_at, list, CalendarsYear}
+use Rattle.content.proofs.OfYears.{year_same, year_read}
 use Rattle.content.proofs.OneList.{one_list}
 
 -- Entries that are put together two by two.
@@ -50,80 +48,30 @@ module _ (f g : ℕ → ℕ) where
       rw (get_or-append l (pair n) 0 (2 * k) (omega arith), get_or-append l (pair n) 0 (2 * k + 1) (omega arith)) (pair_got n k (omega arith)))
 
 module _ (wing h years : ℕ) (bytes : List ℕ) where
-  abbrev pub list : ℕ → List ℕ
-  list i = stretch_rows (table_of wing) (h + i)
-
-  -- What is told of year i, and of its row k.
-  abbrev first_at : ℕ → ℕ → ℕ
-  first_at i k = number_at bytes (offset_told bytes i + 6 * k) 4
-
-  abbrev days_at : ℕ → ℕ → ℕ
-  days_at i k = number_at bytes (offset_told bytes i + 6 * k + 4) 1
-
-  abbrev pub CalendarsRow : ℕ → ℕ → Type 0
-  CalendarsRow i k =
-      (first_at i k ≡ get_or (list i) (2 * k) 0) × ((days_at i k ≡ get_or (list i) (2 * k + 1) 0) × (number_at bytes (offset_told bytes i + 6 * k + 5) 1 ≡ wing))
-
-  pub record CalendarsYear (i : ℕ) : Type 0 where
-    pub long : length_told bytes i ≡ year_length (h + i)
-    pub many : rows_told bytes i ≡ rows_in wing (h + i)
-    pub each : (k : ℕ) → k < rows_in wing (h + i) → CalendarsRow i k
-
-  -- It is told so where it agrees, and the other way round.
-  abbrev row_same : ℕ → ℕ → Bool
-  row_same i k = row_agrees wing bytes (offset_told bytes i + 6 * k) (get_or (list i) (2 * k) 0) (get_or (list i) (2 * k + 1) 0)
-
-  row_same_lem : (i k : ℕ) → CalendarsRow i k → row_same i k ≡ true
-  unfolding row_agrees
-  row_same_lem i k r = rw (eq-eqb _ _ r.0, eq-eqb _ _ r.1.0, eq-eqb _ _ r.1.1)
-
-  row_read_lem : (i k : ℕ) → row_same i k ≡ true → CalendarsRow i k
-  unfolding row_agrees
-  row_read_lem i k e =
-      let second = and_right (eqb (first_at i k) (get_or (list i) (2 * k) 0)) _ e in
-      let third = and_right (eqb (days_at i k) (get_or (list i) (2 * k + 1) 0)) _ second in
-      (eqb-true _ _ (and_left _ _ e), (eqb-true _ _ (and_left _ _ second), eqb-true _ _ third))
-
-  year_same : (i : ℕ) → CalendarsYear i → year_agrees wing bytes i (h + i) ≡ true
-  unfolding year_agrees rows_agree
-  year_same i t =
-      rw (eq-eqb _ _ t.long, eq-eqb _ _ t.many, passed 0 (rows_in wing (h + i)) (row_same i) (λ k l u. row_same_lem i k (t.each k (omega arith))))
-
-  year_read : (i : ℕ) → year_agrees wing bytes i (h + i) ≡ true → CalendarsYear i
-  unfolding year_agrees rows_agree
-  year_read i e =
-      let second = and_right (eqb (length_told bytes i) (year_length (h + i))) _ e in
-      let third = and_right (eqb (rows_told bytes i) (rows_in wing (h + i))) _ second in
-      record {
-        long = eqb-true _ _ (and_left _ _ e);
-        many = eqb-true _ _ (and_left _ _ second);
-        each = λ k p. row_read_lem i k (at 0 (rows_in wing (h + i)) (row_same i) third k (omega arith) (omega arith));
-      }
-
   module _ (from : 1 ≤ h) (to : h + years ≤ 10000) where
-    its_stretches : (i : ℕ) → i < years → StretchesOf (table_of wing) (h + i) (list i)
+    its_stretches : (i : ℕ) → i < years → StretchesOf (table_of wing) (h + i) (list wing h i)
     its_stretches i p = stretches_of (table_of wing) (tables_pass wing) (h + i) (omega arith) (omega arith)
 
     -- A sheet tells each year so, since the year has one list of stretches.
-    pub sheet_tells : SheetOf wing h years bytes → (i : ℕ) → i < years → CalendarsYear i
+    pub sheet_tells : SheetOf wing h years bytes → (i : ℕ) → i < years → CalendarsYear wing h bytes i
     unfolding stretches_told rows_in
     sheet_tells s i p =
         let n = rows_told bytes i in
-        let e = one_list (table_of wing) (h + i) (stretches_told bytes (offset_told bytes i) n) (list i) (s.stretches i p) (its_stretches i p) in
-        let two = rw e at (pairs_long (first_at i) (days_at i) n) in
-        let many : n ≡ length (list i) / 2 = omega (arith, two) in
+        let e = one_list (table_of wing) (h + i) (stretches_told bytes (offset_told bytes i) n) (list wing h i) (s.stretches i p) (its_stretches i p) in
+        let two = rw e at (pairs_long (first_at bytes i) (days_at bytes i) n) in
+        let many : n ≡ length (list wing h i) / 2 = omega (arith, two) in
         record {
           long = s.lengths i p;
           many = many;
           each = λ k q.
               let r : k < n = omega (arith, many) in
-              let g = rw e at (pair_got (first_at i) (days_at i) n k r) in
+              let g = rw e at (pair_got (first_at bytes i) (days_at bytes i) n k r) in
               (sym g.0, (sym g.1, s.wings i k p r));
         }
 
     pub sheet_agrees : SheetOf wing h years bytes → content_agrees wing bytes h years ≡ true
     unfolding content_agrees
-    sheet_agrees s = passed 0 years (λ i. year_agrees wing bytes i (h + i)) (λ i l u. year_same i (sheet_tells s i (omega arith)))
+    sheet_agrees s = passed 0 years (λ i. year_agrees wing bytes i (h + i)) (λ i l u. year_same wing h bytes i (sheet_tells s i (omega arith)))
 
     -- Where the content agrees, bytes that header and index make a sheet are one of the wing.
     pub agrees_sheet :
@@ -133,7 +81,7 @@ module _ (wing h years : ℕ) (bytes : List ℕ) where
         content_agrees wing bytes h years ≡ true → SheetOf wing h years bytes
     unfolding content_agrees stretches_told rows_in
     agrees_sheet years_told_is first_told_is rows_told_is index_offset_is rows_offset_is all offsets e =
-        let told : (i : ℕ) → i < years → CalendarsYear i = λ i p. year_read i (at 0 years (λ i. year_agrees wing bytes i (h + i)) e i (omega arith) (omega arith)) in
+        let told : (i : ℕ) → i < years → CalendarsYear wing h bytes i = λ i p. year_read wing h bytes i (at 0 years (λ i. year_agrees wing bytes i (h + i)) e i (omega arith) (omega arith)) in
         record {
           years_told_is = years_told_is;
           first_told_is = first_told_is;
@@ -146,8 +94,8 @@ module _ (wing h years : ℕ) (bytes : List ℕ) where
           stretches = λ i p.
               let t = told i p in
               let same =
-              joined_alike (pair (first_at i) (days_at i)) (pair_at (list i)) (rows_in wing (h + i)) (λ k q. let r = t.each k q in rw (r.0, r.1.0))
-              ∙ pairs_joined (list i) (two_each (table_of wing) (tables_pass wing) (h + i))
+              joined_alike (pair (first_at bytes i) (days_at bytes i)) (pair_at (list wing h i)) (rows_in wing (h + i)) (λ k q. let r = t.each k q in rw (r.0, r.1.0))
+              ∙ pairs_joined (list wing h i) (two_each (table_of wing) (tables_pass wing) (h + i))
               in
               rw (t.many, same) (its_stretches i p);
           wings = λ i k p q. let t = told i p in (t.each k (rw t.many at q)).1.1;

@@ -17,10 +17,11 @@ use Rattle.sheet.specs.Sheet.{row_of, rows_in, year_rows, rows_before, sheet_siz
 use Rattle.sheet.specs.Promises.{offset_told, rows_told, length_told, rows_told_before, SheetOf}
 use Rattle.sheet.proofs.Sizes.{rows_long, index_long, years_long, front_long, sheet_long}
 use Rattle.sheet.proofs.Years.{rows_more, rows_grow}
-use Rattle.content.proofs.Told.{CalendarsYear, sheet_tells}
+use Rattle.content.proofs.Calendars.{CalendarsYear}
+use Rattle.content.proofs.Told.{sheet_tells}
 
 module _ (wing h years : ℕ) (bytes : List ℕ) (all : Bytes bytes) (from : 1 ≤ h) (to : h + years ≤ 10000) (s : SheetOf wing h years bytes) where
-  told : (i : ℕ) → i < years → CalendarsYear wing h years bytes i
+  told : (i : ℕ) → i < years → CalendarsYear wing h bytes i
   told = sheet_tells wing h years bytes from to s
 
   before : (n : ℕ) → n ≤ years → rows_told_before bytes n ≡ rows_before wing h n

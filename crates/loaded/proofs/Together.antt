@@ -14,7 +14,8 @@ use Rattle.accepted.specs.Check.{years_told, first_told, count_told, loaded_refu
 use Rattle.loaded.specs.Rows.{rows_answer}
 use Rattle.loaded.specs.Walk.{row_place, row_read}
 use Rattle.loaded.specs.Promises.{row_numbers, rows_in_part, year_part, Together}
-use Rattle.accepted.proofs.Accepted.{accepted, rows_inside}
+use Rattle.accepted.proofs.Accepted.{rows_inside}
+use Rattle.accepted.proofs.Refusal.{accepted}
 use Rattle.loaded.proofs.Answers.{rows_of_sheet}
 use Rattle.loaded.proofs.Walks.{rows_handed_out}
 

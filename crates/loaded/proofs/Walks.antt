@@ -13,7 +13,8 @@ use Rattle.laws.proofs.Tests.{and_left, and_right}
 use Rattle.accepted.specs.Check.{count_told, loaded_refusal}
 use Rattle.loaded.specs.Walk.{row_place, has_row, row_read, row_given, row_after, ended_row, begun_at}
 use Rattle.loaded.specs.Promises.{RowThere, NoMore, StepOf, row_after_calls, handed_out, WalkOf}
-use Rattle.accepted.proofs.Accepted.{where_accepted, where_refused, accepted}
+use Rattle.accepted.proofs.Accepted.{where_accepted, where_refused}
+use Rattle.accepted.proofs.Refusal.{accepted}
 
 module _ (bytes : List ℕ) (k : ℕ) where
   -- Its bytes are not there.

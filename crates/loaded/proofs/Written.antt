@@ -17,7 +17,7 @@ use Rattle.sheet.proofs.Sizes.{year_long}
 use Rattle.sheet.proofs.ReadBack.{year_held, entry_told, header_told, row_told, sheet_of}
 use Rattle.sheet.proofs.Answers.{sheet_written}
 use Rattle.accepted.specs.Check.{years_told, first_told, count_told, loaded_refusal}
-use Rattle.accepted.proofs.Accepted.{refusal_promised, accepted}
+use Rattle.accepted.proofs.Refusal.{refusal_promised, accepted}
 use Rattle.accepted.proofs.Exactly.{sheet_accepted, accepted_written}
 use Rattle.loaded.specs.Rows.{rows_answer, rows_of}
 use Rattle.loaded.specs.Walk.{row_place, row_read}

@@ -7,7 +7,7 @@ use Rattle.laws.proofs.Tests.{within}
 use Rattle.sheet.specs.Promises.{offset_told, rows_told}
 use Rattle.accepted.specs.Check.{loaded_refusal}
 use Rattle.accepted.specs.Promises.{WritersYears, Placed}
-use Rattle.accepted.proofs.Accepted.{accepted}
+use Rattle.accepted.proofs.Refusal.{accepted}
 use Rattle.loaded.proofs.Answers.{rows_refused, rows_of_sheet}
 use Rattle.loaded_code.proofs.years.rows_place.Statement.{statement}
 use Rattle.loaded_code.proofs.years.rows_place.Tie as tie
