@@ -12,8 +12,7 @@ use Rattle.laws.proofs.Tests.{at, whether, all, Each, facts}
 use Rattle.delays.specs.Delays.{closed}
 use Rattle.delays.specs.declared.Delayed.{Delayed}
 use Rattle.delays.proofs.Late.{alike, are_alike, by_times, by_times_lem, noon_or_before}
-use Rattle.delays_code.proofs.delay.Statement.{statement}
-use Rattle.delays_code.proofs.delay.Tie as tie
+use Rattle.delays_code.proofs.delay.Goals as goal
 
 -- 1 where a delay applies, else 0.
 abbrev one : Bool → ℕ
@@ -46,7 +45,7 @@ passed w l u a b c d e =
     facts (tests w a b c d e)
     (whether _ (whether _ (whether _ (whether _ (whether _ (at 1 7 _ tests_all w l (omega arith)) a) b) c) d) e)
 
-returns : tie.Need-returns
+pub returns : goal.returns
 unfolding tests
 returns c =
     let n = c.before.before in
@@ -61,24 +60,3 @@ returns c =
       noon_or_before a.time,
     )
     (are_alike _ _ p.0, leb-true _ _ p.1.0)
-
-pub delay_spec : {M : Type 1} → statement M
-delay_spec =
-    tie.close
-    (tie.spec
-    (search rules)
-    (search rules)
-    (search rules)
-    (search rules)
-    (search rules)
-    (search rules)
-    (search rules)
-    (search rules)
-    (search rules)
-    (search rules)
-    (search rules)
-    (search rules)
-    (search rules)
-    (search rules)
-    (search rules)
-    returns)

@@ -8,19 +8,19 @@ use Rattle.molad.specs.Years.{last_year, leap, months_before}
 use Rattle.molad.specs.Molad.{no_month, months_of_year_before, molad_parts, molad_day, molad_time}
 use Rattle.molad.specs.Answers.{molad_answer}
 use Rattle.molad.proofs.Closed.{months_of_year}
-use Rattle.molad_code.proofs.molad.Statement.{statement}
-use Rattle.molad_code.proofs.molad.Tie as tie
+use Rattle.molad_code.proofs.molad.Goals as goal
+use Rattle.molad_code.proofs.molad.Goals.{After-pick-skipped}
 
-returns : tie.Need-returns-then-year
+pub returns-then-year : goal.returns-then-year
 unfolding molad_answer
-returns c = rw c.before.if-year.true c.refused.ensures
+returns-then-year c = rw c.before.if-year.true c.refused.ensures
 
-months_before_requires : tie.Need-months_before-before-requires
-months_before_requires c κs = let w = within 1 last_year c.before.args.year c.if-year.false in omega arith
+pub months_before-before-requires : goal.months_before-before-requires
+months_before-before-requires c = let w = within 1 last_year c.before.args.year c.if-year.false in omega arith
 
-returns-2 : tie.Need-returns-then-month-before
+pub returns-then-month-before : goal.returns-then-month-before
 unfolding molad_answer no_month
-returns-2 c =
+returns-then-month-before c =
     let m = c.before.before.before in
     rw (m.before.if-year.false, ← m.months_before-before.ensures.1.0, c.before.if-month-before.true) c.refused-then-month-before.ensures
 
@@ -32,7 +32,7 @@ record Placed (months month skipped before of_year : ℕ) : Type 0 where
   place : of_year + skipped ≡ month
 
 placed :
-    (c : tie.After-pick-skipped) →
+    (c : After-pick-skipped) →
     let m = c.before.before.before.before in
     let a = m.before.before.args in
     Placed m.months_before-before.result.months a.month c.pick-skipped.result (months_before a.year) (months_of_year_before (leap a.year) a.month)
@@ -48,9 +48,9 @@ placed c =
       place = rw k (months_of_year (leap a.year) a.month w.0 w.1);
     }
 
-returns-3 : tie.Need-returns
+pub returns : goal.returns
 unfolding molad_answer no_month molad_day molad_time molad_parts
-returns-3 c =
+returns c =
     let d = c.before.before in
     let k = d.before.before in
     let p = placed k in
@@ -60,17 +60,14 @@ returns-3 c =
     let s : m.months_before-before.result.months + a.month - k.pick-skipped.result ≡ months_before a.year + months_of_year_before (leap a.year) a.month = omega arith in
     rw (m.before.if-year.false, ← m.months_before-before.ensures.1.0, e.if-month-before.false, m.months_before-before.ensures.1.0, ← s, d.molad_after-m.ensures.0, d.molad_after-m.ensures.1.0)
 
-pub molad_spec : {M : Type 1} → statement M
-molad_spec =
-    tie.close
-    (tie.spec
-    (search rules)
-    returns
-    months_before_requires
-    (search rules)
-    returns-2
-    (search rules)
-    (λ c. let p = placed c.before in search rules)
-    (λ c. let p = placed c.before in omega arith)
-    (λ c κs. let p = placed c.before in omega arith)
-    returns-3)
+pub overflow_add-before : goal.overflow_add-before
+overflow_add-before c =
+    let p = placed c.before in search rules
+
+pub overflow_sub-before : goal.overflow_sub-before
+overflow_sub-before c =
+    let p = placed c.before in omega arith
+
+pub molad_after-m-requires : goal.molad_after-m-requires
+molad_after-m-requires c =
+    let p = placed c.before in omega arith

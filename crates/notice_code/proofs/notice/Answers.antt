@@ -8,17 +8,17 @@ use Prim.Native.Nat.{ℕ, ◌+◌, ◌-◌, ◌*◌, ◌≤◌}
 use native.Mathlib.Omega.{arith}
 use lib.Dec.{leb}
 use Rattle.notice.proofs.Told.{Given, given, no_notice_lem}
-use Rattle.notice_code.proofs.notice.Statement.{statement}
-use Rattle.notice_code.proofs.notice.Tie as tie
+use Rattle.notice_code.proofs.notice.Goals as goal
+use Rattle.notice_code.proofs.notice.Goals.{Else-m-ne0}
 
-returns : tie.Need-returns-then-m-ne0
-returns c =
+pub returns-then-m-ne0 : goal.returns-then-m-ne0
+returns-then-m-ne0 c =
     let t = c.before in
     let m = t.before.before in
     c.refused.ensures ∙ no_notice_lem m.before.args.year m.before.args.month m.molad-m.result m.molad-m.ensures t.if-m-ne0.true
 
 -- The molad, past the refusals.
-told : (c : tie.Else-m-ne0) → let m = c.before.before in let a = m.before.args in Given a.year a.month m.molad-m.result
+told : (c : Else-m-ne0) → let m = c.before.before in let a = m.before.args in Given a.year a.month m.molad-m.result
 told c = let m = c.before.before in given m.before.args.year m.before.args.month m.molad-m.result m.molad-m.ensures c.if-m-ne0.false
 
 -- The hour has six to take off.
@@ -34,8 +34,8 @@ hours_on : (b : Bool) (hour back : ℕ) → back ≡ cond b 1 0 → hour + 24 * 
 hours_on true hour back e = omega arith
 hours_on false hour back e = omega arith
 
-returns-2 : tie.Need-returns
-returns-2 c =
+pub returns : goal.returns
+returns c =
     let w = c.before.before.before in
     let p = w.before.before in
     let g = told p.before.before in
@@ -43,17 +43,18 @@ returns-2 c =
     let e : p.pick-back.result ≡ cond b 1 0 = p.pick-back.ensures.0 in
     rw (← g.notice, w.weekday_of.ensures, day_back b _ _ e, hours_on b _ _ e, g.day, g.hour, g.part)
 
-pub notice_spec : {M : Type 1} → statement M
-notice_spec =
-    tie.close
-    (tie.spec
-    (search rules)
-    (search rules)
-    returns
-    (search rules)
-    (λ c. let g = told c.before.before.before in search rules)
-    (λ c κs. let g = told c.before.before.before in omega arith)
-    (search rules)
-    (λ c. let g = told c.before.before.before.before.before in search rules)
-    (λ c. six _ _ _ refl c.before.before.before.pick-back.ensures.0)
-    returns-2)
+pub overflow_sub-day : goal.overflow_sub-day
+overflow_sub-day c =
+    let g = told c.before.before.before in search rules
+
+pub weekday_of-requires : goal.weekday_of-requires
+weekday_of-requires c =
+    let g = told c.before.before.before in omega arith
+
+pub overflow_add-result : goal.overflow_add-result
+overflow_add-result c =
+    let g = told c.before.before.before.before.before in search rules
+
+pub overflow_sub-result : goal.overflow_sub-result
+overflow_sub-result c =
+    six _ _ _ refl c.before.before.before.pick-back.ensures.0
