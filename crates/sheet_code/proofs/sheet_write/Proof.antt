@@ -14,32 +14,32 @@ use Rattle.rest.specs.Wings.{out_of_wings}
 use Rattle.sheet.specs.Sheet.{most_years, sheet_size}
 use Rattle.sheet.specs.Answers.{ends_outside, sheet_answer, sheet_buffer}
 use Rattle.sheet.proofs.Years.{all_written}
-use Rattle.sheet_code.proofs.sheet_write.Goals as goal
-use Rattle.sheet_code.proofs.sheet_write.Goals.{After-count_rows-rows, Else-ends_outside, Else-out_of_wings, Else-years}
+use Rattle.sheet_code.proofs.sheet_write.Statement.{statement}
+use Rattle.sheet_code.proofs.sheet_write.Tie as tie
 
-pub returns-then-out_of_wings : goal.returns-then-out_of_wings
-returns-then-out_of_wings c =
+returns : tie.Need-returns-then-out_of_wings
+returns c =
     let t = c.before in
     let w = sym t.before.out_of_wings.ensures ∙ t.if-out_of_wings.true in
     (rw w c.no_list.ensures, rw w)
 
 -- The wing is good.
-good_wing : (c : Else-out_of_wings) → out_of_wings c.before.before.before.args.wing ≡ false
+good_wing : (c : tie.Else-out_of_wings) → out_of_wings c.before.before.before.args.wing ≡ false
 good_wing c = sym c.before.out_of_wings.ensures ∙ c.if-out_of_wings.false
 
-pub returns-then-years : goal.returns-then-years
+returns-2 : tie.Need-returns-then-years
 unfolding sheet_answer sheet_buffer
-returns-then-years c =
+returns-2 c =
     let t = c.before in
     let w = good_wing t.before in
     (rw (w, t.if-years.true) c.no_list-then-years.ensures, rw (w, t.if-years.true))
 
-good_years : (c : Else-years) → let years = c.before.before.before.before.args.years in (1 ≤ years) × (years ≤ most_years)
+good_years : (c : tie.Else-years) → let years = c.before.before.before.before.args.years in (1 ≤ years) × (years ≤ most_years)
 good_years c = within 1 most_years c.before.before.before.before.args.years c.if-years.false
 
-pub returns-then-ends_outside : goal.returns-then-ends_outside
+returns-3 : tie.Need-returns-then-ends_outside
 unfolding sheet_answer sheet_buffer
-returns-then-ends_outside c =
+returns-3 c =
     let t = c.before in
     let s = t.before.before in
     let w = good_wing s.before in
@@ -56,7 +56,7 @@ record Good (wing h years : ℕ) : Type 0 where
   from : 1 ≤ h
   to : h + years ≤ 10000
 
-good : (c : Else-ends_outside) → let a = c.before.before.before.before.before.before.args in Good a.wing a.first_year a.years
+good : (c : tie.Else-ends_outside) → let a = c.before.before.before.before.before.before.args in Good a.wing a.first_year a.years
 good c =
     let s = c.before.before in
     let a = s.before.before.before.before.args in
@@ -74,24 +74,24 @@ good c =
     }
 
 -- So many bytes are wanted.
-wanted : (c : After-count_rows-rows) → let a = c.before.before.before.before.before.before.before.args in 16 + 8 * a.years + 6 * c.count_rows-rows.result ≡ sheet_size a.wing a.first_year a.years
+wanted : (c : tie.After-count_rows-rows) → let a = c.before.before.before.before.before.before.before.args in 16 + 8 * a.years + 6 * c.count_rows-rows.result ≡ sheet_size a.wing a.first_year a.years
 unfolding sheet_size
 wanted c = rw c.count_rows-rows.ensures.0
 
-small : (c : After-count_rows-rows) → let a = c.before.before.before.before.before.before.before.args in (a.years ≤ 100) × (c.count_rows-rows.result ≤ 6000)
+small : (c : tie.After-count_rows-rows) → let a = c.before.before.before.before.before.before.before.args in (a.years ≤ 100) × (c.count_rows-rows.result ≤ 6000)
 small c = let g = good c.before in (g.few, omega (arith, g.few, c.count_rows-rows.ensures.1))
 
-pub returns-then-out-size : goal.returns-then-out-size
+returns-4 : tie.Need-returns-then-out-size
 unfolding sheet_answer sheet_buffer
-returns-then-out-size c =
+returns-4 c =
     let n = c.before in
     let g = good n.before in
     let t = lt-ltb _ _ c.if-out-size.true in
     (rw (g.wing_good, g.years_good, g.ends_good, ← wanted n, t), rw (g.wing_good, g.years_good, g.ends_good, ← wanted n, t))
 
-pub returns : goal.returns
+returns-5 : tie.Need-returns
 unfolding sheet_answer sheet_buffer
-returns c =
+returns-5 c =
     let y = c.before.before in
     let p = y.before.before.before.before in
     let l = p.before.before in
@@ -103,11 +103,11 @@ returns c =
     let stored = rw (p.put_header.ensures, n.count_rows-rows.ensures.0) at y.write_years.ensures in
     (rw (g.wing_good, g.years_good, g.ends_good, wanted n, f), rw (g.wing_good, g.years_good, g.ends_good, f) (stored ∙ all_written a.wing a.first_year a.years a.out.now room))
 
-pub put_header-requires : goal.put_header-requires
-put_header-requires c = let l = c.before in (omega (arith, l.if-out-size.false), (small l.before).0)
+put_header_requires : tie.Need-put_header-requires
+put_header_requires c κs = let l = c.before in (omega (arith, l.if-out-size.false), (small l.before).0)
 
-pub write_years-requires : goal.write_years-requires
-write_years-requires c =
+write_years_requires : tie.Need-write_years-requires
+write_years_requires c κs =
     let p = c.before.before.before in
     let l = p.before.before in
     let n = l.before in
@@ -115,26 +115,25 @@ write_years-requires c =
     let room = rw n.count_rows-rows.ensures.0 at l.if-out-size.false in
     (g.from, (g.few, (g.to, rw p.put_header.ensures (rw (length-sets _ 0 _) room))))
 
-pub ends_outside-requires : goal.ends_outside-requires
-ends_outside-requires c =
-    good_years c
-
-pub count_rows-rows-requires : goal.count_rows-rows-requires
-count_rows-rows-requires c =
-    let g = good c in (g.from, (g.few, g.to))
-
-pub overflow_mul-size : goal.overflow_mul-size
-overflow_mul-size c =
-    let s = small c in record { fits = omega arith }
-
-pub overflow_add-size : goal.overflow_add-size
-overflow_add-size c =
-    let s = small c in record { fits = omega arith }
-
-pub overflow_mul-size-2 : goal.overflow_mul-size-2
-overflow_mul-size-2 c =
-    let s = small c in record { fits = omega arith }
-
-pub overflow_add-size-2 : goal.overflow_add-size-2
-overflow_add-size-2 c =
-    let s = small c in record { fits = omega arith }
+pub sheet_write_spec : {M : Type 1} → statement M
+sheet_write_spec =
+    tie.close
+    (tie.spec
+    (search rules)
+    (search rules)
+    returns
+    (search rules)
+    returns-2
+    (λ c κs. good_years c)
+    (search rules)
+    returns-3
+    (λ c κs. let g = good c in (g.from, (g.few, g.to)))
+    (λ c. let s = small c in record { fits = omega arith })
+    (λ c. let s = small c in record { fits = omega arith })
+    (λ c. let s = small c in record { fits = omega arith })
+    (λ c. let s = small c in record { fits = omega arith })
+    returns-4
+    put_header_requires
+    write_years_requires
+    (search rules)
+    returns-5)
