@@ -1,5 +1,5 @@
--- What each exported call answers, under the call's own name: `bd_weekday` is `bd_weekday`. Its contract cites it, so that what is
--- checked of these names is checked of the calls. A call that is lent a buffer has a second name for what it leaves there.
+-- What each exported call answers, under the call's own name. Its contract cites it, so that what is checked of these names is
+-- checked of the calls. A call that is lent a buffer has a second name for what it leaves there.
 use Rattle.std.specs.Prelude.{List, ℕ, ℤ}
 use Rattle.days.specs.Weekday.{weekday_answer}
 use Rattle.days.specs.declared.WeekdayAnswer.{WeekdayAnswer}
