@@ -23,7 +23,7 @@ pub struct Figures {
 }
 
 #[repr(C)]
-#[derive(Drop)]
+#[derive(Default, Drop)]
 pub struct ChargeAnswer {
     pub refusal: u64,
     // The latest hour to begin, and the hours that charging takes.

@@ -11,7 +11,7 @@
 
 // The day number of a civil date, or why there is none.
 #[repr(C)]
-#[derive(Drop)]
+#[derive(Default, Drop)]
 pub struct CivilDay {
     pub refusal: u64,
     pub day: u64,
@@ -19,7 +19,7 @@ pub struct CivilDay {
 
 // The civil date of a day number, or why there is none.
 #[repr(C)]
-#[derive(Drop)]
+#[derive(Default, Drop)]
 pub struct CivilDate {
     pub refusal: u64,
     pub year: i64,

@@ -9,13 +9,15 @@ ghost use Rattle.days.specs.Range.{out_of_range};
 ghost use Rattle.days.specs.Weekday.{weekday_answer};
 ghost use Rattle.days.specs.Weekday.{weekday};
 
+use refusals::Refusal;
+
 // 1 Tishri 1.
 pub const FIRST_DAY: u64 = 347_998;
 // 29 Elul 9999.
 pub const LAST_DAY: u64 = 4_000_075;
 
 #[repr(C)]
-#[derive(Drop)]
+#[derive(Default, Drop)]
 pub struct WeekdayAnswer {
     pub refusal: u64,
     pub weekday: u64,
@@ -48,8 +50,8 @@ pub fn weekday(day: u64) -> WeekdayAnswer
 {
     if out_of_range(day) {
         return WeekdayAnswer {
-            refusal: 4,
-            weekday: 0,
+            refusal: Refusal::DayOutOfRange as u64,
+            ..WeekdayAnswer::default()
         };
     }
     WeekdayAnswer {

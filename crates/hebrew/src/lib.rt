@@ -9,21 +9,21 @@
 #![tactic(auto)]
 
 #[repr(C)]
-#[derive(Drop)]
+#[derive(Default, Drop)]
 pub struct MonthAnswer {
     pub refusal: u64,
     pub days: u64,
 }
 
 #[repr(C)]
-#[derive(Drop)]
+#[derive(Default, Drop)]
 pub struct HebrewDay {
     pub refusal: u64,
     pub day: u64,
 }
 
 #[repr(C)]
-#[derive(Drop)]
+#[derive(Default, Drop)]
 pub struct HebrewDate {
     pub refusal: u64,
     pub year: u64,

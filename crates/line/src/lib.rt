@@ -7,7 +7,7 @@
 #![tactic(auto)]
 
 #[repr(C)]
-#[derive(Drop)]
+#[derive(Default, Drop)]
 pub struct LineAnswer {
     pub refusal: u64,
     pub number: u64,

@@ -4,7 +4,7 @@
 #![tactic(auto)]
 
 #[repr(C)]
-#[derive(Drop)]
+#[derive(Default, Drop)]
 pub struct ListAnswer {
     pub refusal: u64,
     pub count: u64,

@@ -9,7 +9,7 @@
 
 // A row: the first day and the length of a stretch, and its wing. Where no row is left `more` is 0, as is all else; else 1.
 #[repr(C)]
-#[derive(Clone, Copy)]
+#[derive(Clone, Copy, Default)]
 pub struct Row {
     pub more: u64,
     pub first: u64,
@@ -33,7 +33,7 @@ pub struct Begun {
 
 // Where a year's rows stand: from which byte of the sheet on, and how many bytes they are.
 #[repr(C)]
-#[derive(Drop)]
+#[derive(Default, Drop)]
 pub struct RowsAnswer {
     pub refusal: u64,
     pub offset: u64,

@@ -12,7 +12,7 @@
 #![tactic(auto)]
 
 #[repr(C)]
-#[derive(Drop)]
+#[derive(Default, Drop)]
 pub struct MoladAnswer {
     pub refusal: u64,
     pub day: u64,

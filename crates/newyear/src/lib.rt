@@ -9,7 +9,7 @@
 #![tactic(auto)]
 
 #[repr(C)]
-#[derive(Drop)]
+#[derive(Default, Drop, PartialEq)]
 pub struct NewYearAnswer {
     pub refusal: u64,
     pub day: u64,
@@ -22,7 +22,7 @@ pub struct NewYearAnswer {
 }
 
 #[repr(C)]
-#[derive(Drop)]
+#[derive(Default, Drop)]
 pub struct YearAnswer {
     pub refusal: u64,
     pub new_year: u64,
@@ -34,7 +34,7 @@ pub struct YearAnswer {
 }
 
 #[repr(C)]
-#[derive(Drop)]
+#[derive(Default, Drop)]
 pub struct KindAnswer {
     pub refusal: u64,
     pub kind: u64,
@@ -43,7 +43,7 @@ pub struct KindAnswer {
 }
 
 #[repr(C)]
-#[derive(Drop)]
+#[derive(Default, Drop)]
 pub struct YearOfDayAnswer {
     pub refusal: u64,
     pub year: u64,

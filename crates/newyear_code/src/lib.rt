@@ -2,6 +2,7 @@
 // a day.
 #![tactic(auto)]
 
+mod asked;
 mod kinds;
 mod span;
 mod tishri;
@@ -9,6 +10,7 @@ mod tishri;
 ghost use Rattle.std.specs.Prelude.{◌≡◌};
 ghost use Rattle.newyear.specs.Answers.{new_year_answer, year_answer, year_of_day_answer};
 
+pub use asked::{span_of_day, span_of_year};
 pub use kinds::kind;
 use newyear::{NewYearAnswer, YearAnswer, YearOfDayAnswer};
 use span::year_of;

@@ -2,22 +2,25 @@
 ghost use Rattle.days.specs.Range.{InRange};
 ghost use Rattle.molad.specs.Years.{InYears};
 ghost use Rattle.newyear.specs.NewYear.{year_of};
-ghost use Rattle.newyear_code.specs.Spans.{Spans};
+ghost use Rattle.std.specs.Prelude.{◌≡◌};
+ghost use Rattle.newyear_code.specs.Spans.{IsSpan};
 ghost use Rattle.newyear_code.specs.Steps.{Finds};
 
 use crate::tishri::begins;
 
+// A year that is covered, the day on which it begins, and its length in days.
 #[derive(Clone, Copy)]
 pub struct Span {
     pub year: u64,
     pub new_year: u64,
     pub length: u64,
+    pub ghost is_span: { IsSpan year new_year length },
 }
 
 // A step, for the years 1 to 9999.
 pub fn year_span(year: u64) -> Span
     requires { InYears year }
-    ensures { Spans year result }
+    ensures { result.year ≡ year }
 {
     let first = begins(year);
     let next = begins(year + 1);
@@ -66,7 +69,7 @@ pub fn year_of(day: u64) -> Found
 // A step, for the days of the range: the span of the year that holds the day.
 pub fn year_holding(day: u64) -> Span
     requires { InRange day }
-    ensures { Spans (year_of day) result }
+    ensures { result.year ≡ year_of day }
 {
     let found = year_of(day);
     let other = begins(found.other);

@@ -8,7 +8,7 @@
 #![tactic(auto)]
 
 #[repr(C)]
-#[derive(Drop)]
+#[derive(Default, Drop)]
 pub struct NoticeAnswer {
     pub refusal: u64,
     pub day: u64,

@@ -8,7 +8,7 @@
 #![tactic(auto)]
 
 #[repr(C)]
-#[derive(Clone, Copy)]
+#[derive(Clone, Copy, Default, PartialEq)]
 pub struct DayRecord {
     pub day: u64,
     pub wing: u64,

@@ -7,7 +7,7 @@
 #![tactic(auto)]
 
 #[repr(C)]
-#[derive(Drop)]
+#[derive(Default, Drop)]
 pub struct StretchAnswer {
     pub refusal: u64,
     pub first: u64,

@@ -1,4 +1,3 @@
-use borrow.Author.Rules.{rules}
 use native.Mathlib.Omega.{arith}
 use Rattle.laws.proofs.Tests.{within}
 use Rattle.molad.specs.Years.{last_year, InYears, months_in}
