@@ -1,9 +1,10 @@
 -- Where the months begin, by the count that begins in March and before it, and the month of a day of the year.
 use mathlib.Core.Path.{◌≡◌, refl}
-use mathlib.Core.Bool.{Bool, true, false, cond}
+use mathlib.Core.Bool.{Bool, true, false}
 use mathlib.Core.List.{List, [], ◌∷◌}
 use Prim.Native.Nat.{ℕ, ◌+◌, ◌-◌, ◌*◌, ◌/◌, ◌%◌, ◌≤◌, ◌<◌}
 use native.Mathlib.Omega.{arith}
+use mir.Val.{bool_byte}
 use borrow.Author.Tests.{eqb-true, leb-true}
 use lib.Dec.{eqb, leb}
 use Rattle.laws.specs.Runs.{every}
@@ -26,7 +27,7 @@ early_start_lem leap m l u = eqb-true _ _ (at 1 2 (early_start leap) (early_star
 
 -- March to December, and the end of the year.
 abbrev start : Bool → ℕ → ℕ
-start leap m = 59 + cond leap 1 0 + (153 * (m - 3) + 2) / 5
+start leap m = 59 + bool_byte leap + (153 * (m - 3) + 2) / 5
 
 abbrev late_start : Bool → ℕ → Bool
 late_start leap m = eqb (start leap m) (days_before leap m)

@@ -10,8 +10,6 @@ ghost use Rattle.std.specs.Prelude.{◌≡◌, ◌≤◌, ◌<◌};
 ghost use Rattle.civil.specs.Calendar.{days_before, year_days};
 ghost use Rattle.civil.specs.Good.{IsMonthDay};
 
-use laws::pick;
-
 // The days from 1 January to 1 March in a common year.
 const TO_MARCH: u64 = 59;
 
@@ -33,7 +31,7 @@ pub fn days_before(leap: bool, month: u64) -> u64
     if month < 3 {
         31 * (month - 1)
     } else {
-        TO_MARCH + pick(leap, 1, 0) + (153 * (month - 3) + 2) / 5
+        TO_MARCH + u64::from(leap) + (153 * (month - 3) + 2) / 5
     }
 }
 
