@@ -5,8 +5,13 @@
 // 1,461.
 #![tactic(auto)]
 
-pub mod gregorian;
-pub mod julian;
+mod calendar;
+mod gregorian;
+mod julian;
+
+pub use calendar::Calendar;
+pub use gregorian::Gregorian;
+pub use julian::Julian;
 
 // A raised year, whether it is leap, and the day number of the day before it.
 #[derive(Drop)]
