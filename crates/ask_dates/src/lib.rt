@@ -10,6 +10,7 @@ mod signed;
 
 use answering::{Answer, bits, fields, more, no_answer};
 use asking::{Numbers, place};
+use civil_code::{Gregorian, Julian};
 use signed::first_signed;
 
 fn civil_date(date: civil::CivilDate) -> Answer {
@@ -49,8 +50,8 @@ fn year_of_day(day: u64) -> Answer {
 pub fn of_day(place: u64, day: u64) -> Answer {
     match place {
         0 => weekday(day),
-        1 => civil_date(civil_code::day_to_julian(day)),
-        2 => civil_date(civil_code::day_to_gregorian(day)),
+        1 => civil_date(civil_code::to_date::<Julian>(day)),
+        2 => civil_date(civil_code::to_date::<Gregorian>(day)),
         3 => civil_date(wording_code::shown_date(day)),
         4 => hebrew_date(day),
         5 => year_of_day(day),
@@ -77,8 +78,8 @@ fn of_civil_date(name: &[u8], numbers: Numbers) -> Answer {
         return no_answer();
     }
     match place(b"julian_to_day gregorian_to_day", name) {
-        0 => civil_day(civil_code::julian_to_day(year.number, n[1], n[2])),
-        1 => civil_day(civil_code::gregorian_to_day(year.number, n[1], n[2])),
+        0 => civil_day(civil_code::to_day::<Julian>(year.number, n[1], n[2])),
+        1 => civil_day(civil_code::to_day::<Gregorian>(year.number, n[1], n[2])),
         _ => no_answer(),
     }
 }

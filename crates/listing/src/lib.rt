@@ -5,6 +5,7 @@
 // weekday, day number and Gregorian date. What is refused prints only its number.
 #![tactic(auto)]
 
+use civil_code::Gregorian;
 use show::{date, end, number, plain, refused};
 use std::io;
 
@@ -24,7 +25,7 @@ fn head(out: &impl Print, year: u64, facts: newyear::YearAnswer) -> io::Result<(
 
 fn row(out: &impl Print, day: u64) -> io::Result<()> {
     let found = hebrew_code::day_to_hebrew(day);
-    let daylight = civil_code::day_to_gregorian(day);
+    let daylight = civil_code::to_date::<Gregorian>(day);
     plain(out, found.month)?;
     number(out, found.day)?;
     number(out, days::weekday(day).weekday)?;

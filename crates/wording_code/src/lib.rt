@@ -4,6 +4,7 @@
 ghost use Rattle.std.specs.Prelude.{◌≡◌};
 ghost use Rattle.wording.specs.Answers.{notice_on_lines, shown_date};
 
+use civil_code::Gregorian;
 use show::{date, end, number, refused, text, two_figures};
 use std::io;
 
@@ -30,7 +31,7 @@ pub fn shown_date(day: u64) -> civil::CivilDate
             day: 6,
         };
     }
-    civil_code::day_to_gregorian(day)
+    civil_code::to_date::<Gregorian>(day)
 }
 
 fn weekday_name(out: &impl Print, weekday: u64) -> io::Result<()> {
