@@ -1,7 +1,7 @@
 -- Civil years are signed, with a year 0: 3761 BCE is −3760. The years covered are −3760 to 6239. A year is counted as
 -- year + 4,000, its raised year, which is no negative number; 4,000 is a multiple of 4, of 100 and of 400, so that
 -- a year and its raised year are divisible by the same of these.
-use Rattle.std.specs.Prelude.{◌≡◌, Bool, ◌&&◌, cond, ℕ, ◌+◌, ◌-◌, ℤ, pos, negsuc, ◌*ℤ◌, ◌≤ℤ◌}
+use Rattle.std.specs.Prelude.{◌≡◌, Bool, ◌&&◌, ℕ, ◌+◌, ◌-◌, ℤ, pos, negsuc, ◌*ℤ◌, ◌≤ℤ◌}
 use Rattle.std.proofs.Math.IntN.{sub_ℕ}
 use Rattle.std.specs.Int.Signed.{le_z}
 
@@ -22,10 +22,6 @@ covered y = le_z first_civil_year y && le_z y last_civil_year
 abbrev pub raised : ℤ → ℕ
 raised (pos n) = n + 4000
 raised (negsuc n) = 3999 - n
-
--- The raised year; 0 for a year that is not covered.
-unfoldable pub raised_in : ℤ → ℕ
-raised_in y = cond (covered y) (raised y) 0
 
 abbrev pub lowered : ℕ → ℤ
 lowered s = sub_ℕ s 4000

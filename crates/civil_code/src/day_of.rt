@@ -22,9 +22,9 @@ pub fn day_of<C: Calendar>(year: i64, month: u64, day: u64) -> Result<u64, Refus
     if !(1..=length).contains(&day) {
         return Err(Refusal::BadCivilDay);
     }
-    let date = year.eve + before + day;
-    if days::out_of_range(date) {
+    let found = year.eve + before + day;
+    if days::out_of_range(found) {
         return Err(Refusal::CivilDateOutOfRange);
     }
-    Ok(date)
+    Ok(found)
 }

@@ -8,10 +8,9 @@ mod signed;
 ghost use Rattle.std.specs.Prelude.{◌≡◌};
 ghost use Rattle.civil.specs.Answers.{civil_day, civil_date};
 
-pub use civil_years::{Calendar, Gregorian, Julian};
-
 use civil::{CivilDate, CivilDay};
 use civil_months::month_of;
+pub use civil_years::{Calendar, Gregorian, Julian};
 use day_of::day_of;
 use refusals::Refusal;
 use signed::lowered;

@@ -5,7 +5,7 @@ use Rattle.civil.specs.Calendar.{Calendar, year_days, day_of, first_raised, last
 use Rattle.civil_years.specs.declared.Year.{Year}
 use Rattle.civil_years.specs.declared.YearDay.{YearDay}
 
--- The year s of a calendar; 0 stands for a year that is not covered.
+-- The year s of a calendar. Of a year that is not covered the day before it is bounded, and not told.
 pub record IsYear (cal : Calendar) (s : ℕ) (x : Year) : Type 0 where
   pub number : x.number ≡ s
   pub rule : x.leap ≡ cal.leap s

@@ -1,4 +1,4 @@
-// What a calendar's own arithmetic tells: its years, and the year of a day. The months are the same in all.
+// What a calendar's own arithmetic tells: its years, and the year of a day. The months are the same in both.
 ghost use Rattle.std.specs.Prelude.{◌≤◌};
 ghost use Rattle.days.specs.Range.{InRange};
 ghost use Rattle.civil.specs.Calendar.{Calendar, last_raised};
@@ -21,6 +21,6 @@ pub trait Calendar {
         requires { InRange day }
         ensures { IsYearDay rule day result };
 
-    // Each day of the range has a date in the years that are covered.
+    // The first day's date is a good one, and the range ends within the years that are covered.
     ghost covers: { Covers rule };
 }
