@@ -23,18 +23,10 @@ pub fn delay(weekday: u64, time: u64, leap: bool, after_leap: bool) -> Delayed
     requires { (1 ≤ weekday) × (weekday ≤ 7) }
     ensures { IsDelay weekday time leap after_leap result }
 {
-    let noon = laws::pick(NOON <= time, 1, 0);
+    let noon = u64::from(NOON <= time);
     let closed = (CLOSED >> (weekday + noon)) % 2;
-    let tuesday = laws::pick(
-        !leap & (weekday == 3) & (TUESDAY_LIMIT <= time) & (time < NOON),
-        1,
-        0,
-    );
-    let monday = laws::pick(
-        after_leap & (weekday == 2) & (MONDAY_LIMIT <= time) & (time < NOON),
-        1,
-        0,
-    );
+    let tuesday = u64::from(!leap & (weekday == 3) & (TUESDAY_LIMIT <= time) & (time < NOON));
+    let monday = u64::from(after_leap & (weekday == 2) & (MONDAY_LIMIT <= time) & (time < NOON));
     Delayed {
         delay: noon + closed + 2 * tuesday + monday,
         cause: noon + 2 * closed + 4 * tuesday + 5 * monday,

@@ -1,32 +1,29 @@
 // The code that answers which Hebrew date is a day, and which day is a date.
 #![tactic(auto)]
 
+mod asked;
+
 ghost use Rattle.std.specs.Prelude.{◌≡◌};
 ghost use Rattle.hebrew.specs.Answers.{month_answer, hebrew_day, hebrew_date};
 
+use asked::{day_number, span_of_month};
 use hebrew::{HebrewDate, HebrewDay, MonthAnswer};
-use hebrew_months::{date_after, days_before, days_in, no_month};
+use hebrew_months::{date_after, days_in};
+use newyear_code::span_of_day;
 
 // Refusal 1 for a year outside 1..9999; 2 for a code that is no month of the year.
 pub fn month_length(year: u64, month: u64) -> MonthAnswer
     ensures { result ≡ month_answer year month }
 {
-    if (year < 1) | (molad_code::LAST_YEAR < year) {
-        return MonthAnswer {
-            refusal: 1,
-            days: 0,
-        };
-    }
-    let span = newyear_code::year_span(year);
-    if no_month(span.length, month) {
-        return MonthAnswer {
-            refusal: 2,
-            days: 0,
-        };
-    }
-    MonthAnswer {
-        refusal: 0,
-        days: days_in(span.length, month),
+    match span_of_month(year, month) {
+        Ok(span) => MonthAnswer {
+            refusal: 0,
+            days: days_in(span.length, month),
+        },
+        Err(why) => MonthAnswer {
+            refusal: why.number(),
+            ..MonthAnswer::default()
+        },
     }
 }
 
@@ -34,19 +31,12 @@ pub fn month_length(year: u64, month: u64) -> MonthAnswer
 pub fn hebrew_to_day(year: u64, month: u64, day: u64) -> HebrewDay
     ensures { result ≡ hebrew_day year month day }
 {
-    if (year < 1) | (molad_code::LAST_YEAR < year) {
-        return HebrewDay { refusal: 1, day: 0 };
-    }
-    let span = newyear_code::year_span(year);
-    if no_month(span.length, month) {
-        return HebrewDay { refusal: 2, day: 0 };
-    }
-    if (day < 1) | (days_in(span.length, month) < day) {
-        return HebrewDay { refusal: 3, day: 0 };
-    }
-    HebrewDay {
-        refusal: 0,
-        day: span.new_year + days_before(span.length, month) + (day - 1),
+    match day_number(year, month, day) {
+        Ok(day) => HebrewDay { refusal: 0, day },
+        Err(why) => HebrewDay {
+            refusal: why.number(),
+            ..HebrewDay::default()
+        },
     }
 }
 
@@ -54,26 +44,22 @@ pub fn hebrew_to_day(year: u64, month: u64, day: u64) -> HebrewDay
 pub fn day_to_hebrew(day: u64) -> HebrewDate
     ensures { result ≡ hebrew_date day }
 {
-    if days::out_of_range(day) {
-        return HebrewDate {
-            refusal: 4,
-            year: 0,
-            month: 0,
-            day: 0,
-            new_year: 0,
-            length: 0,
-            day_of_year: 0,
-        };
-    }
-    let span = newyear_code::year_holding(day);
-    let date = date_after(span.length, day - span.new_year);
-    HebrewDate {
-        refusal: 0,
-        year: span.year,
-        month: date.month,
-        day: date.day,
-        new_year: span.new_year,
-        length: span.length,
-        day_of_year: date.after + 1,
+    match span_of_day(day) {
+        Ok(span) => {
+            let date = date_after(span.length, day - span.new_year);
+            HebrewDate {
+                refusal: 0,
+                year: span.year,
+                month: date.month,
+                day: date.day,
+                new_year: span.new_year,
+                length: span.length,
+                day_of_year: date.after + 1,
+            }
+        }
+        Err(why) => HebrewDate {
+            refusal: why.number(),
+            ..HebrewDate::default()
+        },
     }
 }

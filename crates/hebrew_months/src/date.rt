@@ -4,6 +4,7 @@ ghost use Rattle.newyear.specs.Kinds.{IsLength};
 ghost use Rattle.hebrew.specs.Dates.{month_of};
 ghost use Rattle.hebrew.specs.Steps.{year_date, tomorrow};
 
+use crate::lengths::{is_leap, long_marheshvan, short_kislev};
 use crate::months::{days_before, days_in};
 use hebrew::YearDate;
 
@@ -12,11 +13,11 @@ fn month_of(length: u64, x: u64) -> u64
     requires { (IsLength length) × (x < length) }
     ensures { (result ≡ month_of length x) × ((1 ≤ result) × (result ≤ 13)) }
 {
-    let long = laws::pick(((length == 355) | (length == 385)) & (59 <= x), 1, 0);
-    let short = laws::pick(((length == 353) | (length == 383)) & (88 <= x), 1, 0);
+    let long = u64::from(long_marheshvan(length) & (59 <= x));
+    let short = u64::from(short_kislev(length) & (88 <= x));
     let from_new_year = (2 * (x + 1 + short - long) + 57) / 59;
     let from_end = 13 - (2 * (length - 1 - x) + 1) / 59;
-    let after_shevat = laws::pick(383 <= length, 236, 206);
+    let after_shevat = laws::pick(is_leap(length), 236, 206);
     laws::pick(x + after_shevat < length, from_new_year, from_end)
 }
 
@@ -47,7 +48,7 @@ pub fn next_date(length: u64, date: YearDate) -> YearDate
     }
     YearDate {
         after: date.after + 1,
-        month: laws::pick((date.month == 5) & (length < 383), 7, date.month + 1),
+        month: laws::pick((date.month == 5) & !is_leap(length), 7, date.month + 1),
         day: 1,
     }
 }

@@ -2,6 +2,7 @@
 #![tactic(auto)]
 
 mod date;
+mod lengths;
 mod months;
 
 pub use date::{date_after, next_date};

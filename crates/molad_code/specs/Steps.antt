@@ -2,7 +2,7 @@
 use Rattle.std.specs.Prelude.{◌≡◌, ℕ, ◌-◌, ◌/◌, ◌%◌, ◌≤◌, ◌<◌}
 use Rattle.molad.specs.Units.{parts_in_day}
 use Rattle.molad.specs.Years.{leap, months_before}
-use Rattle.molad.specs.Molad.{molad_after}
+use Rattle.molad.specs.Molad.{molad_after, molad_day, molad_time}
 use Rattle.molad_code.specs.declared.months.Months.{Months}
 use Rattle.molad_code.specs.declared.parts.Molad.{Molad}
 
@@ -14,3 +14,7 @@ IsMonths h r = (r.months ≡ months_before h) × ((r.leap ≡ leap h) × ((r.aft
 abbrev pub IsMolad : ℕ → Molad → Type 0
 IsMolad months r =
     (r.day ≡ molad_after months / parts_in_day) × ((r.time ≡ molad_after months % parts_in_day) × ((r.day ≤ 4001400) × (r.time < parts_in_day)))
+
+-- The molad of a month.
+abbrev pub IsMoladOf : ℕ → ℕ → Molad → Type 0
+IsMoladOf h code r = (r.day ≡ molad_day h code) × (r.time ≡ molad_time h code)

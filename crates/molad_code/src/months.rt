@@ -1,5 +1,6 @@
-// The months before a year.
-ghost use Rattle.std.specs.Prelude.{◌≤◌};
+// The months before a year, and those of a year.
+ghost use Rattle.std.specs.Prelude.{◌≡◌, ◌≤◌};
+ghost use Rattle.molad.specs.Molad.{no_month};
 ghost use Rattle.molad_code.specs.Steps.{IsMonths};
 
 // The Hebrew years covered are 1 to 9999; New Year is answered for one more.
@@ -35,4 +36,12 @@ pub fn months_before(year: u64) -> Months
         leap: 12 <= remainder,
         after_leap: remainder < 7,
     }
+}
+
+// Is the code no month of a year, leap or not?
+#[tactic(auto, unfolding(molad::specs::Molad::no_month))]
+pub fn no_month(leap: bool, month: u64) -> bool
+    ensures { result ≡ no_month leap month }
+{
+    !(1..=13).contains(&month) | ((month == 6) & !leap)
 }

@@ -11,12 +11,11 @@ use Rattle.newyear_code.specs.declared.tishri.Tishri.{Tishri}
 pub record Begins (h : ℕ) (t : Tishri) : Type 0 where
   pub day : t.new_year ≡ new_year h
   pub on : t.weekday ≡ weekday (new_year h)
-  pub molad_day_lem : t.molad_day ≡ molad_day h 1
-  pub molad_time_lem : t.molad_time ≡ molad_time h 1
-  pub delay : t.delay ≡ (delay_in h).delay
-  pub cause : t.cause ≡ (delay_in h).cause
+  pub molad_day_lem : t.molad.day ≡ molad_day h 1
+  pub molad_time_lem : t.molad.time ≡ molad_time h 1
+  pub late : t.late ≡ delay_in h
   pub small : t.new_year ≤ 4002000
-  pub in_day : t.molad_time < parts_in_day
+  pub in_day : t.molad.time < parts_in_day
 
 -- The year that holds day j. The New Year that told it is the next one where the day comes before it, else its own; the
 -- other is that of the other year.

@@ -1,4 +1,5 @@
-// The span of a year, or of the year that holds a day, where any number may be asked.
+// The span of a year, or of the year that holds a day, where any number may be asked. Inlined, since a call passes its
+// `Result` through memory.
 ghost use Rattle.refusals.specs.declared.Refusal.TheVariants.{BadYear, DayOutOfRange};
 ghost use Rattle.days.specs.Range.{out_of_range};
 ghost use Rattle.molad.specs.Years.{out_of_years};
@@ -10,6 +11,7 @@ use molad_code::LAST_YEAR;
 use refusals::Refusal;
 
 // The span of a year that is asked. Refusal 1 for a year outside 1..9999.
+#[inline(always)]
 pub fn span_of_year(year: u64) -> Result<Span, Refusal>
     ensures { IsAsked (out_of_years year) BadYear year result }
 {
@@ -21,6 +23,7 @@ pub fn span_of_year(year: u64) -> Result<Span, Refusal>
 }
 
 // The span of the year that holds a day that is asked. Refusal 4 for a day outside the range.
+#[inline(always)]
 pub fn span_of_day(day: u64) -> Result<Span, Refusal>
     ensures { IsAsked (out_of_range day) DayOutOfRange (year_of day) result }
 {

@@ -3,7 +3,7 @@ ghost use Rattle.std.specs.Prelude.{◌≡◌};
 ghost use Rattle.newyear.specs.Kinds.{IsLength, kind_code, IsKind, kind_number};
 ghost use Rattle.newyear.specs.Answers.{kind_answer};
 
-use crate::span::year_span;
+use crate::asked::span_of_year;
 use newyear::KindAnswer;
 
 // The first kind with New Year on each weekday. No weekday has 0, and New Year falls on no Sunday, Wednesday or Friday.
@@ -17,7 +17,7 @@ fn kind_number(weekday: u64, length: u64) -> u64
 {
     let common = laws::pick(weekday == 3, 1, 2);
     let before = laws::pick(383 <= length, common, 0);
-    let second = laws::pick((length == 355) | (length == 385), 1, 0);
+    let second = u64::from((length == 355) | (length == 385));
     FIRST_KIND[weekday as usize] as u64 + before + second
 }
 
@@ -25,20 +25,19 @@ fn kind_number(weekday: u64, length: u64) -> u64
 pub fn kind(year: u64) -> KindAnswer
     ensures { result ≡ kind_answer year }
 {
-    if (year < 1) | (molad_code::LAST_YEAR < year) {
-        return KindAnswer {
-            refusal: 1,
-            kind: 0,
-            weekday: 0,
-            length: 0,
-        };
-    }
-    let span = year_span(year);
-    let weekday = days::weekday_of(span.new_year);
-    KindAnswer {
-        refusal: 0,
-        kind: kind_number(weekday, span.length),
-        weekday,
-        length: span.length,
+    match span_of_year(year) {
+        Ok(span) => {
+            let weekday = days::weekday_of(span.new_year);
+            KindAnswer {
+                refusal: 0,
+                kind: kind_number(weekday, span.length),
+                weekday,
+                length: span.length,
+            }
+        }
+        Err(why) => KindAnswer {
+            refusal: why.number(),
+            ..KindAnswer::default()
+        },
     }
 }

@@ -12,7 +12,9 @@ ghost use Rattle.newyear.specs.Answers.{new_year_answer, year_answer, year_of_da
 
 pub use asked::{span_of_day, span_of_year};
 pub use kinds::kind;
+use molad_code::{LAST_NEW_YEAR, LAST_YEAR};
 use newyear::{NewYearAnswer, YearAnswer, YearOfDayAnswer};
+use refusals::Refusal;
 use span::year_of;
 pub use span::{Span, year_holding, year_span};
 use tishri::begins;
@@ -21,28 +23,22 @@ use tishri::begins;
 pub fn new_year(year: u64) -> NewYearAnswer
     ensures { result ≡ new_year_answer year }
 {
-    if (year < 1) | (molad_code::LAST_NEW_YEAR < year) {
+    if !(1..=LAST_NEW_YEAR).contains(&year) {
         return NewYearAnswer {
-            refusal: 1,
-            day: 0,
-            weekday: 0,
-            molad_day: 0,
-            molad_hour: 0,
-            molad_part: 0,
-            delay: 0,
-            cause: 0,
+            refusal: Refusal::BadYear as u64,
+            ..NewYearAnswer::default()
         };
     }
-    let t = begins(year);
+    let tishri = begins(year);
     NewYearAnswer {
         refusal: 0,
-        day: t.new_year,
-        weekday: t.weekday,
-        molad_day: t.molad_day,
-        molad_hour: t.molad_time / 1080,
-        molad_part: t.molad_time % 1080,
-        delay: t.delay,
-        cause: t.cause,
+        day: tishri.new_year,
+        weekday: tishri.weekday,
+        molad_day: tishri.molad.day,
+        molad_hour: tishri.molad.hour(),
+        molad_part: tishri.molad.part(),
+        delay: tishri.late.delay,
+        cause: tishri.late.cause,
     }
 }
 
@@ -50,15 +46,10 @@ pub fn new_year(year: u64) -> NewYearAnswer
 pub fn year(year: u64) -> YearAnswer
     ensures { result ≡ year_answer year }
 {
-    if (year < 1) | (molad_code::LAST_YEAR < year) {
+    if !(1..=LAST_YEAR).contains(&year) {
         return YearAnswer {
-            refusal: 1,
-            new_year: 0,
-            weekday: 0,
-            length: 0,
-            months: 0,
-            delay: 0,
-            cause: 0,
+            refusal: Refusal::BadYear as u64,
+            ..YearAnswer::default()
         };
     }
     let first = begins(year);
@@ -69,8 +60,8 @@ pub fn year(year: u64) -> YearAnswer
         weekday: first.weekday,
         length,
         months: laws::pick(383 <= length, 13, 12),
-        delay: first.delay,
-        cause: first.cause,
+        delay: first.late.delay,
+        cause: first.late.cause,
     }
 }
 
@@ -80,10 +71,11 @@ pub fn year_of_day(day: u64) -> YearOfDayAnswer
 {
     if days::out_of_range(day) {
         return YearOfDayAnswer {
-            refusal: 4,
-            year: 0,
+            refusal: Refusal::DayOutOfRange as u64,
+            ..YearOfDayAnswer::default()
         };
     }
+    // One New Year tells the year; its span would want the other too.
     YearOfDayAnswer {
         refusal: 0,
         year: year_of(day).year,

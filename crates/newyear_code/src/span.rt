@@ -40,6 +40,8 @@ const GUESS_FROM: u64 = 347_700;
 // The days of four such years.
 const FOUR_YEARS: u64 = 1_461;
 
+// What one New Year tells. Straight-line: whether it comes after the day cannot be foretold, so that a branch would often be
+// mispredicted.
 #[derive(Drop)]
 pub struct Found {
     pub year: u64,
@@ -56,11 +58,11 @@ pub fn year_of(day: u64) -> Found
     ensures { Finds day result }
 {
     let before = (day - GUESS_FROM) * 4 / FOUR_YEARS;
-    let t = begins(before + 1);
-    let early = day < t.new_year;
+    let tishri = begins(before + 1);
+    let early = day < tishri.new_year;
     Found {
         year: laws::pick(early, before, before + 1),
-        new_year: t.new_year,
+        new_year: tishri.new_year,
         early,
         other: laws::pick(early, before, before + 2),
     }

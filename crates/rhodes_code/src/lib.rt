@@ -8,28 +8,25 @@ ghost use Rattle.std.specs.Prelude.{◌≡◌};
 ghost use Rattle.rhodes.specs.Answers.{rhodes_answer};
 
 use august::day_of_august;
+use molad_code::LAST_NEW_YEAR;
+use newyear::NewYearAnswer;
+use refusals::Refusal;
 pub use steps::{Route, route_of};
 
 // Refusal 1 for a year outside 1..10,000.
-pub fn new_year_rhodes(year: u64) -> newyear::NewYearAnswer
+pub fn new_year_rhodes(year: u64) -> NewYearAnswer
     ensures { result ≡ rhodes_answer year }
 {
-    if (year < 1) | (molad_code::LAST_NEW_YEAR < year) {
-        return newyear::NewYearAnswer {
-            refusal: 1,
-            day: 0,
-            weekday: 0,
-            molad_day: 0,
-            molad_hour: 0,
-            molad_part: 0,
-            delay: 0,
-            cause: 0,
+    if !(1..=LAST_NEW_YEAR).contains(&year) {
+        return NewYearAnswer {
+            refusal: Refusal::BadYear as u64,
+            ..NewYearAnswer::default()
         };
     }
     let route = route_of(year);
     let august = route.august + route.delay;
     let day = day_of_august(year, august);
-    newyear::NewYearAnswer {
+    NewYearAnswer {
         refusal: 0,
         day,
         weekday: days::weekday_of(day),

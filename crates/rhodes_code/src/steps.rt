@@ -38,7 +38,7 @@ pub fn late_by(past_noon: bool, place: u64, weekday: u64, part: u64) -> Late
     let closed = (weekday == 1) | ((weekday == 4) | (weekday == 6));
     let monday = (weekday == 2) & (11 < place) & (16789 <= part);
     let tuesday = (weekday == 3) & (6 < place) & (9924 <= part);
-    let noon = laws::pick(past_noon, 1, 0);
+    let noon = u64::from(past_noon);
     Late {
         delay: laws::pick(closed, 1, laws::pick(monday, 1, laws::pick(tuesday, 2, 0))),
         cause: laws::pick(

@@ -1,7 +1,7 @@
--- Straight line: each `pick` is a `cond`, and what they add up to is what the rules say.
-use borrow.Author.Rules.{rules}
+-- Straight line: each test is 1 or 0, and what they add up to is what the rules say.
 use mathlib.Core.Path.{◌≡◌, refl}
-use mathlib.Core.Bool.{Bool, true, not, ◌&&◌, cond}
+use mir.Val.{bool_byte}
+use mathlib.Core.Bool.{Bool, true, not, ◌&&◌}
 use mathlib.Core.List.{List, [], ◌∷◌}
 use Prim.Native.Nat.{ℕ, ◌+◌, ◌*◌, ◌/◌, ◌%◌, ◌^◌, ◌≤◌}
 use native.Mathlib.Omega.{arith}
@@ -16,7 +16,7 @@ use Rattle.delays_code.proofs.delay.Goals as goal
 
 -- 1 where a delay applies, else 0.
 abbrev one : Bool → ℕ
-one test = cond test 1 0
+one test = bool_byte test
 
 -- The bit of a day, of those that are closed.
 abbrev bit : ℕ → ℕ
@@ -48,15 +48,7 @@ passed w l u a b c d e =
 pub returns : goal.returns
 unfolding tests
 returns c =
-    let n = c.before.before in
-    let s = n.before in
-    let a = s.args in
-    let p = passed a.weekday s.requires.0 s.requires.1 (not a.leap) a.after_leap (leb 9924 a.time) (leb 16789 a.time) (ltb a.time 19440) in
-    rw (
-      c.pick-monday.ensures.0,
-      c.before.pick-tuesday.ensures.0,
-      n.pick-noon.ensures.0,
-      by_times_lem a.weekday a.time a.leap a.after_leap,
-      noon_or_before a.time,
-    )
+    let a = c.args in
+    let p = passed a.weekday c.requires.0 c.requires.1 (not a.leap) a.after_leap (leb 9924 a.time) (leb 16789 a.time) (ltb a.time 19440) in
+    rw (c.from-monday.ensures, c.from-tuesday.ensures, c.from-noon.ensures, by_times_lem a.weekday a.time a.leap a.after_leap, noon_or_before a.time)
     (are_alike _ _ p.0, leb-true _ _ p.1.0)
