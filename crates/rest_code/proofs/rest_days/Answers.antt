@@ -1,21 +1,28 @@
-use Rattle.std.proofs.Common.{arith}
-use mathlib.Core.Path.{refl, ◌∙◌, ap}
+use Rattle.std.proofs.Common.{arith, ℕ, ◌<◌, List, get_or, length}
+use mathlib.Core.Bool.{true}
+use mathlib.Core.Path.{◌≡◌, refl, ◌∙◌, ap}
 use Rattle.hebrew.specs.Rows.{row_day, row_good}
 use Rattle.lists.specs.Lists.{list_answer, list_buffer}
 use Rattle.lists.proofs.Lists.{days_length}
 use Rattle.lists_code.proofs.Rows.{row_passes}
+use Rattle.newyear_code.specs.declared.span.Span.{Span}
 use Rattle.rest.specs.Wings.{table_of}
-use Rattle.rest_table.specs.Wing.{number_of}
 use Rattle.rest.proofs.Passed.{tables_pass}
 use Rattle.rest.proofs.Refused.{list_refused, list_passed}
 use Rattle.rest.proofs.RestOfYear.{rows_good}
 use Rattle.rest_code.proofs.rest_days.Goals as goal
 
+-- The rows of either wing's table are dates of the year, since both pass the check.
+good :
+    (wing : ℕ) (span : Span) (table : List ℕ) → table ≡ table_of wing →
+    (k d : ℕ) → k < length table → row_good span.length (get_or table k d) ≡ true
+good wing span table q k d h =
+    let e = span.is_span in
+    let rows = rows_good (table_of wing) (tables_pass wing) span.year e.first e.last in
+    row_passes table (row_good span.length) (rw (q, e.days) rows) k d h
+
 pub list_days-requires : goal.list_days-requires
-list_days-requires c k d h =
-    let e = c.in-Ok.span.is_span in
-    let wing = number_of c.in-Ok.wing in
-    rw c.table.ensures (row_passes (table_of wing) (row_good c.in-Ok.span.length) (rw e.days (rows_good (table_of wing) (tables_pass wing) c.in-Ok.span.year e.first e.last)) k d (rw c.table.ensures at h))
+list_days-requires c = good _ c.in-Ok.span _ c.table.ensures
 
 pub returns-in-Ok : goal.returns-in-Ok
 returns-in-Ok c =

@@ -1,5 +1,4 @@
-use Rattle.std.proofs.Common.{◌≡◌, ℕ, ◌≤◌, ◌-◌, length}
-use Rattle.days.specs.Weekday.{weekday}
+use Rattle.std.proofs.Common.{◌≡◌, ◌≤◌, ◌-◌, length}
 use Rattle.laws.specs.Buffer.{overwrite}
 use Rattle.hebrew.specs.Steps.{year_date}
 use Rattle.rest.specs.Wings.{table_of}
