@@ -19,8 +19,7 @@ pub fn year_rows(wing: Wing, span: Span, out: &mut [u64]) -> usize
     let weekday = days::weekday_of(span.new_year);
     let mut n = 0;
     let mut run = 0;
-    let mut date = hebrew_months::date_after(span.length, 0);
-    while date.after < span.length {
+    for date in year_dates::dates_from(span.length, 0) {
         let rests = rest_table::rest_on(wing, weekday, date);
         if !rests & (0 < run) {
             out[n] = span.new_year + date.after - run;
@@ -28,7 +27,6 @@ pub fn year_rows(wing: Wing, span: Span, out: &mut [u64]) -> usize
             n += 2;
         }
         run = laws::pick(rests, run + 1, 0);
-        date = hebrew_months::next_date(span.length, date);
     }
     n
 }
