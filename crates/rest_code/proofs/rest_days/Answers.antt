@@ -1,36 +1,48 @@
-use Rattle.std.proofs.Common.{arith, ℕ, ◌<◌, List, get_or, length}
+use Rattle.std.proofs.Common.{arith, ℕ, List}
 use mathlib.Core.Bool.{true}
-use mathlib.Core.Path.{◌≡◌, refl, ◌∙◌, ap}
-use Rattle.hebrew.specs.Rows.{row_day, row_good}
+use mathlib.Core.Path.{◌≡◌, refl}
+use Rattle.laws.specs.Runs.{each_of}
+use Rattle.hebrew.specs.Rows.{row_good}
 use Rattle.lists.specs.Lists.{list_answer, list_buffer}
-use Rattle.lists.proofs.Lists.{days_length}
-use Rattle.lists_code.proofs.Rows.{row_passes}
+use Rattle.lists.specs.declared.ListAnswer.{ListAnswer}
 use Rattle.newyear_code.specs.declared.span.Span.{Span}
 use Rattle.rest.specs.Wings.{table_of}
+use Rattle.rest.specs.Steps.{list_refusal}
+use Rattle.rest.specs.Answers.{rest_days_answer, rest_days_buffer, wing_rest_days, wing_rest_days_buffer}
 use Rattle.rest.proofs.Passed.{tables_pass}
 use Rattle.rest.proofs.Refused.{list_refused, list_passed}
 use Rattle.rest.proofs.RestOfYear.{rows_good}
 use Rattle.rest_code.proofs.rest_days.Goals as goal
 
 -- The rows of either wing's table are dates of the year, since both pass the check.
-good :
-    (wing : ℕ) (span : Span) (table : List ℕ) → table ≡ table_of wing →
-    (k d : ℕ) → k < length table → row_good span.length (get_or table k d) ≡ true
-good wing span table q k d h =
-    let e = span.is_span in
-    let rows = rows_good (table_of wing) (tables_pass wing) span.year e.first e.last in
-    row_passes table (row_good span.length) (rw (q, e.days) rows) k d h
+good : (wing : ℕ) (span : Span) → each_of (table_of wing) (row_good span.length) ≡ true
+good wing span = let e = span.is_span in rw e.days (rows_good (table_of wing) (tables_pass wing) span.year e.first e.last)
 
-pub list_days-requires : goal.list_days-requires
-list_days-requires c = good _ c.in-Ok.span _ c.table.ensures
+pub table_days-requires : goal.table_days-requires
+unfolding table_of
+table_days-requires c = good 1 c.in-Ok-Hall-default.span
 
-pub returns-in-Ok : goal.returns-in-Ok
-returns-in-Ok c =
-    let told = c.in-Ok.ensures in
-    let p = list_passed _ _ _ refl told.0 in
-    let e = c.table.ensures ∙ ap table_of told.1.0 in
-    let w = rw e at (c.list_days.ensures (row_day c.args.year) (λ i n h t. rw told.1.1 at t) c.args.year p.1) in
-    (rw (p.0, days_length (row_day c.args.year) (table_of c.args.wing)) w.0, rw p.0 w.1)
+pub table_days-requires-in-Ok-Guest-default : goal.table_days-requires-in-Ok-Guest-default
+unfolding table_of
+table_days-requires-in-Ok-Guest-default c = good 2 c.in-Ok-Guest-default.span
+
+-- The answer by the table of a good wing is the wing's.
+by_table :
+    (wing h n : ℕ) (span : Span) (before after : List ℕ) (r : ListAnswer) → (list_refusal wing h ≡ 0) × ((n ≡ wing) × (span.year ≡ h)) →
+    (r ≡ rest_days_answer (table_of n) span.year before) × (after ≡ rest_days_buffer (table_of n) span.year before) →
+    (r ≡ wing_rest_days wing h before) × (after ≡ wing_rest_days_buffer wing h before)
+by_table wing h n span before after r told e =
+    let p = list_passed wing h _ refl told.0 in
+    let w = rw (told.1.0, told.1.1) at e in (rw p.0 w.0, rw p.0 w.1)
+
+pub returns-in-Ok-Hall-default : goal.returns-in-Ok-Hall-default
+unfolding table_of
+returns-in-Ok-Hall-default c = by_table _ _ 1 c.in-Ok-Hall-default.span _ _ _ (rw c.in-Ok-Hall-default.field-0-0-is at c.in-Ok-Hall-default.ensures) c.table_days.ensures
+
+pub returns-in-Ok-Guest-default : goal.returns-in-Ok-Guest-default
+unfolding table_of
+returns-in-Ok-Guest-default c =
+    by_table _ _ 2 c.in-Ok-Guest-default.span _ _ _ (rw c.in-Ok-Guest-default.field-0-0-is at c.in-Ok-Guest-default.ensures) c.table_days-in-Ok-Guest-default.ensures
 
 pub returns-in-Err : goal.returns-in-Err
 unfolding list_answer list_buffer
