@@ -1,0 +1,29 @@
+// A record that is moved, the day that it comes to, and its wing.
+ghost use Rattle.std.specs.Prelude.{◌≡◌, ◌+◌, ◌-◌};
+ghost use Rattle.days.specs.Range.{InRange};
+ghost use Rattle.rest_table.specs.Wing.{number_of};
+
+use record::DayRecord;
+use rest_table::Wing;
+
+// Moved on a day.
+#[derive(Clone, Copy)]
+pub struct Onward {
+    pub record: DayRecord,
+    pub wing: Wing,
+    pub day: u64,
+    pub ghost moved: { day ≡ record.day + 1 },
+    pub ghost in_range: { InRange day },
+    pub ghost its_wing: { number_of wing ≡ record.wing },
+}
+
+// Moved back a day.
+#[derive(Clone, Copy)]
+pub struct Backward {
+    pub record: DayRecord,
+    pub wing: Wing,
+    pub day: u64,
+    pub ghost moved: { day ≡ record.day - 1 },
+    pub ghost in_range: { InRange day },
+    pub ghost its_wing: { number_of wing ≡ record.wing },
+}
