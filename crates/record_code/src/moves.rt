@@ -1,4 +1,5 @@
-// A record that is moved, the day that it comes to, and its wing.
+// A record that is moved, the day that it comes to, and its wing. There are two types, as a move on and a move back keep
+// different things.
 ghost use Rattle.std.specs.Prelude.{◌≡◌, ◌+◌, ◌-◌};
 ghost use Rattle.days.specs.Range.{InRange};
 ghost use Rattle.rest_table.specs.Wing.{number_of};
@@ -7,7 +8,7 @@ use record::DayRecord;
 use rest_table::Wing;
 
 // Moved on a day.
-#[derive(Clone, Copy)]
+#[derive(Drop)]
 pub struct Onward {
     pub record: DayRecord,
     pub wing: Wing,
@@ -18,7 +19,7 @@ pub struct Onward {
 }
 
 // Moved back a day.
-#[derive(Clone, Copy)]
+#[derive(Drop)]
 pub struct Backward {
     pub record: DayRecord,
     pub wing: Wing,

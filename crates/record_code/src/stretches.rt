@@ -17,14 +17,13 @@ fn kept(r: &DayRecord, day: u64) -> Option<NextStretch>
     requires { InRange day }
     ensures { MatchOption result (lasts r.now day ≡ false) (λ s. (lasts r.now day ≡ true) × (told s ≡ kept r.now day)) }
 {
-    if (r.none == 0) & ((r.first <= days::LAST_DAY) & (r.length <= 3)) {
-        if day < r.first + r.length {
-            return Some(NextStretch {
-                first: r.first,
-                length: r.length,
-                days_left: stretch_code::days_left(r.first, day),
-            });
-        }
+    let told = (r.none == 0) & ((r.first <= days::LAST_DAY) & (r.length <= 3));
+    if told && day < r.first + r.length {
+        return Some(NextStretch {
+            first: r.first,
+            length: r.length,
+            days_left: stretch_code::days_left(r.first, day),
+        });
     }
     None
 }

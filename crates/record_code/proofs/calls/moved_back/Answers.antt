@@ -3,7 +3,7 @@ use Rattle.rest.specs.Wings.{out_of_wings}
 use Rattle.stretch_code.proofs.Named.{named}
 use Rattle.record.specs.Steps.{record_back}
 use Rattle.record.specs.Answers.{back_of}
-use Rattle.record_code.proofs.Sound.{back_tested}
+use Rattle.record_code.proofs.Tested.{back_tested}
 use Rattle.record_code.proofs.calls.moved_back.Goals as goal
 
 pub returns-then-r : goal.returns-then-r

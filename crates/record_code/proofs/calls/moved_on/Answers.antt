@@ -3,7 +3,7 @@ use Rattle.rest.specs.Wings.{out_of_wings}
 use Rattle.stretch_code.proofs.Named.{named}
 use Rattle.record.specs.Steps.{record_on}
 use Rattle.record.specs.Answers.{next_of}
-use Rattle.record_code.proofs.Sound.{on_tested}
+use Rattle.record_code.proofs.Tested.{on_tested}
 use Rattle.record_code.proofs.calls.moved_on.Goals as goal
 
 pub returns-then-r : goal.returns-then-r
