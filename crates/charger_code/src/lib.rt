@@ -3,38 +3,43 @@
 #![tactic(auto)]
 
 ghost use Rattle.std.specs.Prelude.{◌≡◌, ◌≤◌};
-ghost use Rattle.days.specs.Range.{last_day};
+ghost use Rattle.laws.specs.Runs.{outside};
+ghost use Rattle.stretch_code.specs.Found.{told};
 ghost use Rattle.charger.specs.Charging.{bad_figures, hours_needed};
 ghost use Rattle.charger.specs.Promises.{GoodFigures};
-ghost use Rattle.charger.specs.Answers.{no_start, planned as planned_for, charge_answer};
+ghost use Rattle.charger.specs.Answers.{planned as planned_for, charge_answer};
+ghost use Rattle.charger_code.specs.Charged.{charged};
 
 use charger::{ChargeAnswer, Figures};
-use stretch::StretchAnswer;
+use refusals::Refusal;
+use rest_table::Wing;
+use stretch_code::NextStretch;
 
 // The most watt-hours that a figure may be.
 const MOST_WATT_HOURS: u64 = 1_000_000;
 
 const HOURS_OF_DAY: u64 = 24;
 
-fn refused(number: u64) -> ChargeAnswer
-    ensures { result ≡ no_start number }
+// When charging for a stretch begins, and for how many hours.
+#[derive(Clone, Copy)]
+pub struct Charging {
+    pub start: u64,
+    pub hours: u64,
+    pub stretch: NextStretch,
+}
+
+fn outside(figure: u64) -> bool
+    ensures { result ≡ outside 1 1000000 figure }
 {
-    ChargeAnswer {
-        refusal: number,
-        start: 0,
-        hours: 0,
-        first: 0,
-        length: 0,
-    }
+    (figure < 1) | (MOST_WATT_HOURS < figure)
 }
 
 fn bad_figures(figures: Figures) -> bool
     ensures { result ≡ bad_figures figures }
 {
-    ((figures.draw < 1) | (MOST_WATT_HOURS < figures.draw))
-        | (((figures.capacity < 1) | (MOST_WATT_HOURS < figures.capacity))
-            | (((figures.rate < 1) | (MOST_WATT_HOURS < figures.rate))
-                | (figures.capacity < figures.charge)))
+    outside(figures.draw)
+        | (outside(figures.capacity)
+            | (outside(figures.rate) | (figures.capacity < figures.charge)))
 }
 
 // For good figures, and a need of no more than three days' draw: the hours that charging takes.
@@ -48,30 +53,45 @@ fn hours_needed(figures: Figures, need: u64) -> u64
     (need - figures.charge + (figures.rate - 1)) / figures.rate
 }
 
-// For good figures and days of the range: what is answered for a stretch, where charging may begin with day `from`.
-fn planned(from: u64, stretch: StretchAnswer, figures: Figures) -> ChargeAnswer
-    requires { (GoodFigures figures) × ((from ≤ last_day) × ((stretch.first ≤ last_day) × (stretch.length ≤ 3))) }
-    ensures { result ≡ planned_for from stretch figures }
+// For good figures and a day near the range: the charging for a stretch, where it may begin with day `from`. Refusal 13 where
+// need exceeds capacity; 14 where the hours do not fit.
+fn planned(from: u64, stretch: NextStretch, figures: Figures) -> Result<Charging, Refusal>
+    requires { (GoodFigures figures) × (from ≤ 5000000) }
+    ensures { charged result ≡ planned_for from (told stretch) figures }
 {
-    if 0 < stretch.refusal {
-        return refused(9);
-    }
     let need = figures.draw * stretch.length;
     if figures.capacity < need {
-        return refused(13);
+        return Err(Refusal::NeedExceedsCapacity);
     }
     let hours = hours_needed(figures, need);
     let begins = HOURS_OF_DAY * stretch.first;
     if begins < HOURS_OF_DAY * from + hours {
-        return refused(14);
+        return Err(Refusal::HoursDoNotFit);
     }
-    ChargeAnswer {
-        refusal: 0,
+    Ok(Charging {
         start: begins - hours,
         hours,
-        first: stretch.first,
-        length: stretch.length,
+        stretch,
+    })
+}
+
+fn asked(wing: u64, day: u64, figures: Figures) -> Result<Charging, Refusal>
+    ensures { charged result ≡ charge_answer wing day figures }
+{
+    let wing = Wing::try_from(wing)?;
+    if days::out_of_range(day) {
+        return Err(Refusal::DayOutOfRange);
     }
+    if bad_figures(figures) {
+        return Err(Refusal::BadFigure);
+    }
+    let ahead = stretch_code::stretch_from(wing, day).ok_or(Refusal::NoStretch)?;
+    if ahead.first <= day {
+        let from = ahead.first + ahead.length;
+        let next = stretch_code::stretch_from(wing, from).ok_or(Refusal::NoStretch)?;
+        return planned(from, next, figures);
+    }
+    planned(day, ahead, figures)
 }
 
 // When to begin charging for a wing's next stretch that begins after the day. Refusal 15 for a wing that is neither 1 nor 2;
@@ -87,25 +107,23 @@ pub fn charge_start(
 ) -> ChargeAnswer
     ensures { result ≡ charge_answer wing day (record { draw = draw; capacity = capacity; rate = rate; charge = charge }) }
 {
-    if rest_table::out_of_wings(wing) {
-        return refused(15);
-    }
-    if days::out_of_range(day) {
-        return refused(4);
-    }
     let figures = Figures {
         draw,
         capacity,
         rate,
         charge,
     };
-    if bad_figures(figures) {
-        return refused(12);
+    match asked(wing, day, figures) {
+        Ok(c) => ChargeAnswer {
+            refusal: 0,
+            start: c.start,
+            hours: c.hours,
+            first: c.stretch.first,
+            length: c.stretch.length,
+        },
+        Err(why) => ChargeAnswer {
+            refusal: why.number(),
+            ..ChargeAnswer::default()
+        },
     }
-    let ahead = stretch_code::stretch(wing, day);
-    if (ahead.refusal == 0) & (ahead.first <= day) {
-        let from = ahead.first + ahead.length;
-        return planned(from, stretch_code::stretch(wing, from), figures);
-    }
-    planned(day, ahead, figures)
 }

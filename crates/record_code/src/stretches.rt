@@ -1,81 +1,67 @@
 // The stretch that a record tells.
-ghost use Rattle.std.specs.Prelude.{◌≡◌, true, ◌+◌, ◌-◌, ◌≤◌};
+ghost use Rattle.std.specs.Prelude.{◌≡◌, true, false, not, leb, ◌||◌, MatchOption};
 ghost use Rattle.days.specs.Range.{InRange};
-ghost use Rattle.record.specs.Steps.{lasts, kept, rests, stretch_onward, kept_back, stretch_backward};
+ghost use Rattle.rest_table.specs.Wing.{number_of};
+ghost use Rattle.stretch_code.specs.Found.{told, found_answer};
+ghost use Rattle.record.specs.Steps.{lasts, kept, rests, stretch_onward, stretch_backward};
 
-use record::{Dated, DayRecord};
-use stretch::StretchAnswer;
+use crate::moves::{Backward, Onward};
+use crate::small_date::SmallDate;
+use record::DayRecord;
+use rest_table::Wing;
+use stretch_code::NextStretch;
 
-// Has the record a stretch that is not over on the day? Its numbers are looked at before they are added.
-fn lasts(r: DayRecord, day: u64) -> bool
-    ensures { result ≡ lasts r day }
+// A step, for a day in range: the record's stretch, if it has one that is not over on the day; days left are others. Its
+// numbers are looked at before they are added.
+fn kept(r: &DayRecord, day: u64) -> Option<NextStretch>
+    requires { InRange day }
+    ensures { MatchOption result (lasts r.now day ≡ false) (λ s. (lasts r.now day ≡ true) × (told s ≡ kept r.now day)) }
 {
-    if (r.none == 0) & ((r.first <= days::LAST_DAY) & (r.length <= 3)) {
-        return day < r.first + r.length;
+    let told = (r.none == 0) & ((r.first <= days::LAST_DAY) & (r.length <= 3));
+    if told && day < r.first + r.length {
+        return Some(NextStretch {
+            first: r.first,
+            length: r.length,
+            days_left: stretch_code::days_left(r.first, day),
+        });
     }
-    false
-}
-
-// A step, for a day in range and a stretch that lasts: it is kept, and days left are others.
-fn kept(r: DayRecord, day: u64) -> StretchAnswer
-    requires { (InRange day) × (lasts r day ≡ true) }
-    ensures { result ≡ kept r day }
-{
-    StretchAnswer {
-        refusal: 0,
-        first: r.first,
-        length: r.length,
-        days_left: stretch_code::days_left(r.first, day),
-    }
-}
-
-// A step, where the next day is in range too: a day on.
-pub fn on(r: DayRecord) -> StretchAnswer
-    requires { (InRange r.day) × (InRange (r.day + 1)) }
-    ensures { result ≡ stretch_onward r }
-{
-    let day = r.day + 1;
-    if lasts(r, day) {
-        return kept(r, day);
-    }
-    stretch_code::stretch(r.wing, day)
+    None
 }
 
 // A step, for a day in range and its date: is it a rest day of the wing?
-fn rests(wing: u64, day: u64, x: Dated) -> bool
-    requires { (InRange day) × ((x.month ≤ 13) × (x.date ≤ 400)) }
-    ensures { result ≡ rests wing day x }
+fn rests(wing: Wing, day: u64, x: SmallDate) -> bool
+    requires { InRange day }
+    ensures { result ≡ rests (number_of wing) day x.date }
 {
-    if days::weekday_of(day) == 7 {
-        return true;
-    }
-    rest_table::kept(wing, 100 * x.month + x.date)
+    days::weekday_of(day) == 7 || rest_table::kept(wing, 100 * x.date.month + x.date.date)
 }
 
-// A step, where the day before is in range too, and for its date: is the stretch kept a day back? It is not if that day is
-// the last of another.
-fn kept_back(r: DayRecord, x: Dated) -> bool
-    requires { ((InRange r.day) × (InRange (r.day - 1))) × ((x.month ≤ 13) × (x.date ≤ 400)) }
-    ensures { result ≡ kept_back r x }
-{
-    let day = r.day - 1;
-    if !lasts(r, day) {
-        return false;
+impl Onward {
+    pub fn stretch(&self) -> Option<NextStretch>
+        ensures { found_answer result ≡ stretch_onward self.now.record }
+    {
+        match kept(&self.record, self.day) {
+            Some(s) => Some(s),
+            None => stretch_code::stretch_from(self.wing, self.day),
+        }
     }
-    if r.first <= day {
-        return true;
-    }
-    !rests(r.wing, day, x)
 }
 
-// A step, as above: a day back, to a day of this date.
-pub fn back(r: DayRecord, x: Dated) -> StretchAnswer
-    requires { ((InRange r.day) × (InRange (r.day - 1))) × ((x.month ≤ 13) × (x.date ≤ 400)) }
-    ensures { result ≡ stretch_backward r x }
-{
-    let day = r.day - 1;
-    if kept_back(r, x) {
-        return kept(r, day);
+impl Backward {
+    // Is a stretch that is not over the one for the day? Not if the day is the last of another.
+    fn stands(&self, first: u64, x: SmallDate) -> bool
+        ensures { result ≡ leb first self.now.day || not (rests self.now.record.wing self.now.day x.date) }
+    {
+        first <= self.day || !rests(self.wing, self.day, x)
     }
-    stretch_code::stretch(r.wing, day)
+
+    // The date is that of the day before.
+    pub fn stretch(&self, x: SmallDate) -> Option<NextStretch>
+        ensures { found_answer result ≡ stretch_backward self.now.record x.date }
+    {
+        match kept(&self.record, self.day) {
+            Some(s) if self.stands(s.first, x) => Some(s),
+            _ => stretch_code::stretch_from(self.wing, self.day),
+        }
+    }
 }

@@ -1,103 +1,113 @@
-// Runs of a wing's rest days, on the days of one year counted from 0 at New Year, which falls on `weekday`. A weekday may
-// also be counted on past 7.
-ghost use Rattle.std.specs.Prelude.{◌≡◌, false, not, cond, ◌+◌, ◌-◌, ◌≤◌, ◌<◌};
-ghost use Rattle.laws.specs.Search.{seek, run_start};
-ghost use Rattle.newyear.specs.Kinds.{IsLength};
+// Runs of rest days on the days of one year.
+ghost use Rattle.std.specs.Prelude.{◌≡◌, Bool, false, ℕ, ◌+◌, ◌-◌, ◌≤◌, ◌<◌};
+ghost use Rattle.laws.specs.Search.{seek, seek_not, run_start};
 ghost use Rattle.hebrew.specs.Steps.{year_date};
 ghost use Rattle.rest.specs.Wings.{table_of};
-ghost use Rattle.rest.specs.Steps.{rest_at};
-ghost use Rattle.stretch.specs.Steps.{first_for, past_for};
+ghost use Rattle.rest.specs.Steps.{rest_on, rest_at};
+ghost use Rattle.rest_table.specs.Wing.{number_of};
+ghost use Rattle.stretch.specs.Steps.{next_at, first_for, past_for};
+ghost use Rattle.stretch_code.specs.Days.{rests, MayAsk, Tells};
 
+use crate::year_days::YearDays;
 use hebrew::YearDate;
 
-// The first day from a date on that is a rest day or, where it is not wanted, that is none; the day after the year where
-// there is no such day.
-fn first_day(wing: u64, weekday: u64, length: u64, from: YearDate, wanted: bool) -> YearDate
-    requires { (weekday ≤ 400) × ((IsLength length) × ((from.after ≤ length) × (from ≡ year_date length from.after))) }
-    ensures { result ≡ year_date length
-        (seek (λ k. cond wanted (rest_at (table_of wing) weekday length k) (not (rest_at (table_of wing) weekday length k))) (length - from.after) from.after) }
-{
-    let mut date = from;
-    while date.after < length {
-        if rest_table::rest_on(wing, weekday, date) == wanted {
-            return date;
-        }
-        date = hebrew_months::next_date(length, date);
-    }
-    date
-}
-
-// Where the run of rest days begins that ends with the day before day x.
-fn run_start(wing: u64, weekday: u64, length: u64, x: u64) -> u64
-    requires { (weekday ≤ 400) × ((IsLength length) × (x ≤ length)) }
-    ensures { (result ≡ run_start (rest_at (table_of wing) weekday length) x) × (result ≤ x) }
-{
-    let mut first = x;
-    while 0 < first {
-        if !rest_table::rest_on(wing, weekday, hebrew_months::date_after(length, first - 1)) {
-            return first;
-        }
-        first -= 1;
-    }
-    first
-}
-
-// The first day of the run of rest day n, which is the first from day x on: if it is not x, the day before it is none.
-fn first_for(wing: u64, weekday: u64, length: u64, x: u64, n: u64) -> u64
-    requires { (weekday ≤ 400) × ((IsLength length) × ((n ≤ length) × (x < n → rest_at (table_of wing) weekday length (n - 1) ≡ false))) }
-    ensures { (result ≡ run_start (rest_at (table_of wing) weekday length) n) × (result ≤ n) }
-{
-    if x < n {
-        n
-    } else {
-        run_start(wing, weekday, length, n)
-    }
-}
-
+// Neighbours that are rest days.
 #[derive(Drop)]
-pub struct Stretch {
+pub struct Run {
     pub first: u64,
     // The day after the last.
     pub past: u64,
 }
 
-// The run for day x: that of the next rest day in the year or, where there is none, the run that the next New Year
-// begins.
-pub fn run_for(wing: u64, weekday: u64, length: u64, x: u64) -> Stretch
-    requires { (weekday ≤ 7) × ((IsLength length) × (x < length)) }
-    ensures { ((result.first ≡ first_for (rest_at (table_of wing) weekday length) length x)
-        × (result.past ≡ past_for (rest_at (table_of wing) weekday length) (rest_at (table_of wing) (weekday + length) length) length x)) × ((result.first ≤ result.past) × (result.past ≤ 770)) }
-{
-    let next = first_day(
-        wing,
-        weekday,
-        length,
-        hebrew_months::date_after(length, x),
-        true,
-    );
-    if next.after < length {
-        let past = first_day(
-            wing,
-            weekday,
-            length,
-            hebrew_months::next_date(length, next),
-            false,
-        );
-        Stretch {
-            first: first_for(wing, weekday, length, x, next.after),
-            past: past.after,
+impl YearDays {
+    // For dates of a year: is it a rest day?
+    fn rests(self, date: YearDate) -> bool
+        requires { (date.after ≤ 400) × ((date.month ≤ 13) × (date.day ≤ 400)) }
+        ensures { result ≡ rest_on (table_of (number_of self.wing)) self.weekday date }
+    {
+        rest_table::rest_on(self.wing, self.weekday, date)
+    }
+
+    // The first date from this one on that is wanted; the day after the year where there is none.
+    fn first_from<F: Fn(YearDate) -> bool>(self, from: YearDate, wanted: F) -> YearDate
+        requires dates { (from.after ≤ self.length) × (from ≡ year_date self.length from.after) }
+        requires asked { MayAsk self.length (F.pre wanted) }
+        ensures { (p : ℕ → Bool) → Tells self.length (F.post wanted) p → result ≡ year_date self.length (seek p (self.length - from.after) from.after) }
+    {
+        let mut date = from;
+        for _ in from.after..self.length {
+            if wanted(date) {
+                return date;
+            }
+            date = hebrew_months::next_date(self.length, date);
         }
-    } else {
-        let past = first_day(
-            wing,
-            weekday + length,
-            length,
-            hebrew_months::date_after(length, 0),
-            false,
-        );
-        Stretch {
-            first: length,
-            past: length + past.after,
+        date
+    }
+
+    // Where the run of rest days begins that ends with the day before day x.
+    fn run_start(self, x: u64) -> u64
+        requires { x ≤ self.length }
+        ensures { (result ≡ run_start (rests self) x) × (result ≤ x) }
+    {
+        for day in (0..x).rev() {
+            if !self.rests(hebrew_months::date_after(self.length, day)) {
+                return day + 1;
+            }
+        }
+        0
+    }
+
+    // The first day of the run of rest day n, which is the first from day x on: if it is not x, the day before it is none.
+    fn first_for(self, x: u64, n: u64) -> u64
+        requires { (n ≤ self.length) × (x < n → rests self (n - 1) ≡ false) }
+        ensures { (result ≡ run_start (rests self) n) × (result ≤ n) }
+    {
+        if x < n { n } else { self.run_start(n) }
+    }
+
+    // The first rest day from day x on; the day after the year where there is none.
+    fn next_rest(self, x: u64) -> YearDate
+        requires { x < self.length }
+        ensures { result ≡ year_date self.length (next_at (rests self) self.length x) }
+    {
+        self.first_from(
+            hebrew_months::date_after(self.length, x),
+            |date| self.rests(date),
+        )
+    }
+
+    // The first day from this date on that is no rest day.
+    fn past(self, from: YearDate) -> u64
+        requires { (from.after ≤ self.length) × (from ≡ year_date self.length from.after) }
+        ensures { (result ≡ seek_not (rests self) (self.length - from.after) from.after) × ((from.after ≤ result) × (result ≤ self.length)) }
+    {
+        self.first_from(from, |date| !self.rests(date)).after
+    }
+
+    // The run for day x: that of the next rest day in the year or, where there is none, the run that the next New Year
+    // begins.
+    pub fn run_for(self, x: u64) -> Run
+        requires { (self.weekday ≤ 7) × (x < self.length) }
+        ensures first { result.first ≡ first_for (rests self) self.length x }
+        ensures past { result.past ≡ past_for (rests self) (rest_at (table_of (number_of self.wing)) (self.weekday + self.length) self.length) self.length x }
+        ensures order { (result.first ≤ result.past) × (result.past ≤ 770) }
+    {
+        let next = self.next_rest(x);
+        if next.after < self.length {
+            Run {
+                first: self.first_for(x, next.after),
+                past: self.past(hebrew_months::next_date(self.length, next)),
+            }
+        } else {
+            let next_year = YearDays {
+                wing: self.wing,
+                weekday: self.weekday + self.length,
+                length: self.length,
+            };
+            Run {
+                first: self.length,
+                past: self.length + next_year.past(hebrew_months::date_after(self.length, 0)),
+            }
         }
     }
 }

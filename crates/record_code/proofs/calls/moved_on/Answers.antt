@@ -1,0 +1,21 @@
+use Rattle.std.proofs.Common.{rules, ◌≡◌, false}
+use Rattle.rest.specs.Wings.{out_of_wings}
+use Rattle.stretch_code.proofs.Named.{named}
+use Rattle.record.specs.Steps.{record_on}
+use Rattle.record.specs.Answers.{next_of}
+use Rattle.record_code.proofs.Tested.{on_tested}
+use Rattle.record_code.proofs.calls.moved_on.Goals as goal
+
+pub returns-then-r : goal.returns-then-r
+unfolding next_of
+returns-then-r c = rw (← on_tested c.args.r.day, c.if-r.true)
+
+pub returns-in_err-wing : goal.returns-in_err-wing
+unfolding next_of
+returns-in_err-wing c = let e = on_tested c.args.r.day in let f = c.if-r.false in search rules
+
+pub returns : goal.returns
+unfolding next_of record_on
+returns c =
+    let i : out_of_wings c.args.r.wing ≡ false = rw (← c.in_ok-wing.ensures) (named c.in_ok-wing.wing) in
+    rw (← on_tested c.args.r.day, c.if-r.false, i, c.joined.ensures, c.date.ensures, c.stretch.ensures, c.fast.ensures, c.in_ok-wing.ensures)

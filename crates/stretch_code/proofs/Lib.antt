@@ -1,0 +1,4 @@
+pub mod Answered
+pub mod Answers
+pub mod Named
+pub mod Walked

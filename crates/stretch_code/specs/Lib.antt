@@ -1,0 +1,2 @@
+pub mod Days
+pub mod Found
