@@ -5,6 +5,7 @@ use mathlib.Core.List.{List, [], ◌∷◌}
 use mathlib.Core.Logic.{◌↔◌}
 use Prim.Native.Nat.{ℕ, ◌≤◌}
 use Rattle.std.specs.Prelude.{Option, Some, None}
+use Rattle.std.specs.Option.{unwrap_or}
 use Rattle.std.proofs.lemmas.Bool.{true_from_ne_false}
 use native.Mathlib.Omega.{arith}
 use borrow.Author.Tests.{not-true, not-false}
@@ -89,6 +90,11 @@ told_one input r s e f = alike r s (number_on_line_one input (told r) (told s) e
     alike (Some n) None e = absurd (omega (arith, ap (λ (x : LineAnswer). x.refusal) e))
     alike None (Some m) e = absurd (omega (arith, ap (λ (x : LineAnswer). x.refusal) e))
     alike None None e = refl
+
+-- Where none counts as 0, the result is the number that the definition tells.
+pub number_or_nought : (input : List ℕ) (r : Option ℕ) → told r ≡ line_answer input → unwrap_or r 0 ≡ (line_answer input).number
+number_or_nought input (Some n) e = ap (λ (x : LineAnswer). x.number) e
+number_or_nought input None e = ap (λ (x : LineAnswer). x.number) e
 
 -- `after_line_is` is a step: its contract allows one place.
 pub after_line_one :
