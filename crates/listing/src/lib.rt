@@ -5,19 +5,23 @@
 // weekday, day number and Gregorian date. What is refused prints only its number.
 #![tactic(auto)]
 
-use molad::MoladAnswer;
 use newyear::YearAnswer;
 use show::{Date, Refused};
 use std::io;
 
-fn head(out: &impl Print, year: u64, facts: YearAnswer) -> io::Result<()> {
-    let YearAnswer {
-        weekday, length, months, delay, cause, ..
-    } = facts;
-    let MoladAnswer {
-        day, hour, part, ..
-    } = molad_code::molad(year, 1);
-    println!(out; "{year} {weekday} {length} {months} {day} {hour} {part} {delay} {cause}")
+fn head(out: &impl Print, year: u64, facts: &YearAnswer) -> io::Result<()> {
+    let tishri = molad_code::molad(year, 1);
+    println!(out;
+        "{year} {} {} {} {} {} {} {} {}",
+        facts.weekday,
+        facts.length,
+        facts.months,
+        tishri.day,
+        tishri.hour,
+        tishri.part,
+        facts.delay,
+        facts.cause
+    )
 }
 
 fn row(out: &impl Print, day: u64) -> io::Result<()> {
@@ -34,7 +38,7 @@ pub fn print(out: &impl Print, input: &[u8]) -> io::Result<()> {
     if facts.refusal != 0 {
         return println!(out; "{}", Refused(facts.refusal));
     }
-    head(out, year, facts)?;
+    head(out, year, &facts)?;
     let mut days = [0; rest_table::REST_ROWS];
     rest_code::rest_days(1, year, &mut days);
     for day in &days {

@@ -34,7 +34,7 @@ pub fn byte(out: &impl Print, byte: u8) -> io::Result<()> {
     print!(out; " {byte:02x}")
 }
 
-// How far a number is from 0.
+// How far a number is from 0. It stays beside std's `unsigned_abs` since docs/PROMISES.md names it.
 pub fn magnitude(n: i64) -> u64
     ensures { result ≡ unsigned_abs n }
 {
