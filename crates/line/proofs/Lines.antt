@@ -5,12 +5,12 @@ use mathlib.Core.Bool.{Bool, true, false, not, cond, false≢true}
 use mathlib.Core.List.{List, [], ◌∷◌, ◌++◌}
 use mathlib.Core.Logic.{by_cases}
 use Prim.Native.Nat.{ℕ, zero, suc, ◌+◌, ◌*◌, ◌-◌, ◌^◌, ◌≤◌, ◌<◌}
-use native.Mathlib.Nat.{mul_assoc, pow-suc, pow-le-pow_right}
+use native.Mathlib.Nat.{mul_assoc, pow-suc}
 use native.Mathlib.Numerals.{add-one}
 use native.Mathlib.Omega.{arith}
 use native.Mathlib.Decide.{ℕ_discrete}
 use borrow.Author.Tests.{not-true, le-ltb, ne_eqb}
-use lib.Dec.{eqb, lit<}
+use lib.Dec.{eqb}
 use lib.ListN.{length, take, drop, length-append, length-drop}
 use lib.Seq.{take_all}
 use Rattle.std.specs.List.{position_or_len}
@@ -88,7 +88,3 @@ decimal_more (x ∷ l) byte =
 -- One figure more stays below the next power of ten.
 pub below_more : (n i d : ℕ) → n < 10 ^ i → d ≤ 9 → n * 10 + d < 10 ^ (i + 1)
 below_more n i d l u = rw (add-one, pow-suc 10 i) (omega arith)
-
--- A number of at most four figures has room for a fifth.
-pub four_figures : (n i : ℕ) → n < 10 ^ i → i ≤ 4 → n < 10000
-four_figures n i l u = let p : 10 ^ i ≤ 10000 = pow-le-pow_right (lit< tt) u in omega arith

@@ -5,10 +5,3 @@
 //
 // Here stand the rules, in specs/, and what follows from them. The code is in `line_code`.
 #![tactic(auto)]
-
-#[repr(C)]
-#[derive(Default, Drop)]
-pub struct LineAnswer {
-    pub refusal: u64,
-    pub number: u64,
-}

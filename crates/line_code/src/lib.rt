@@ -1,104 +1,60 @@
 // The code that reads the number on a line of input, and finds where the next line begins.
 #![tactic(auto)]
 
-ghost use Rattle.std.specs.Prelude.{◌≡◌, true, ◌≤◌, ◌-◌, length, take, drop, ◌==◌};
+ghost use Rattle.std.specs.Prelude.{◌≡◌, ◌≤◌, ◌==◌, ◌↔◌, IsTrue, length, drop};
 ghost use Rattle.std.specs.List.{position_or_len};
-ghost use Rattle.laws.specs.Runs.{each_of};
-ghost use Rattle.line.specs.Line.{first_line, after_line, figure};
-ghost use Rattle.line.specs.Line.{decimal};
-ghost use Rattle.line.specs.Answers.{line_answer};
-
-use line::LineAnswer;
+ghost use Rattle.line.specs.Line.{first_line, after_line, IsNumber, decimal};
+ghost use Rattle.line.specs.Answers.{line_answer, told};
 
 // The line feed.
-pub const LINE_END: u8 = 10;
-// The figures 0 and 9.
-const NOUGHT: u8 = 48;
-
-const NINE: u8 = 57;
+pub const LINE_END: u8 = b'\n';
 
 // Where a byte stands first, or how many bytes there are if it stands nowhere.
 pub fn find(bytes: &[u8], byte: u8) -> usize
     ensures within { result ≤ length bytes.now }
     ensures first { result ≡ position_or_len (λ b. b == byte) bytes.now }
 {
-    let mut i = 0;
-    while i < bytes.len() {
-        if bytes[i] == byte {
-            return i;
-        }
-        i += 1;
-    }
-    i
+    bytes.iter().take_while(|b| **b != byte).count()
 }
 
-// How many bytes the first line has.
-fn line_length(input: &[u8]) -> usize
-    ensures { (result ≤ length input.now) × (take result input.now ≡ first_line input.now) }
+fn first_line(input: &[u8]) -> &[u8]
+    ensures { result.now ≡ first_line input.now }
 {
-    find(input, LINE_END)
+    &input[..find(input, LINE_END)]
 }
 
 // Where the second line begins: after the first line feed, or at the end of the input if it has none.
 pub fn after_line(input: &[u8]) -> usize
     ensures { (result ≤ length input.now) × (drop result input.now ≡ after_line input.now) }
 {
-    let n = line_length(input);
-    if n < input.len() {
-        return n + 1;
-    }
-    n
+    (find(input, LINE_END) + 1).min(input.len())
 }
 
-fn all_figures(line: &[u8]) -> bool
-    ensures { result ≡ each_of line.now figure }
+fn is_number(line: &[u8]) -> bool
+    ensures { IsTrue result ↔ IsNumber line.now }
 {
-    let mut i = 0;
-    while i < line.len() {
-        if (line[i] < NOUGHT) | (NINE < line[i]) {
-            return false;
-        }
-        i += 1;
-    }
-    true
+    (1..=5).contains(&line.len()) && line.iter().all(u8::is_ascii_digit)
 }
 
-// What a figure stands for.
-fn worth(byte: u8) -> u64
-    requires { (48 ≤ byte) × (byte ≤ 57) }
-    ensures { (result ≡ byte - 48) × (result ≤ 9) }
-{
-    (byte - NOUGHT) as u64
-}
-
-// A step, for lines of at most five figures.
 fn decimal(line: &[u8]) -> u64
-    requires { (length line.now ≤ 5) × (each_of line.now figure ≡ true) }
+    requires { IsNumber line.now }
     ensures { result ≡ decimal line.now }
 {
-    let mut n = 0;
-    let mut i = 0;
-    while i < line.len() {
-        n = n * 10 + worth(line[i]);
-        i += 1;
+    let mut number = 0;
+    for byte in line {
+        number = number * 10 + u64::from(*byte - b'0');
     }
-    n
+    number
 }
 
-// Refusal 1 for a first line that is not one to five figures.
-pub fn number_on_line(input: &[u8]) -> LineAnswer
-    ensures { result ≡ line_answer input.now }
+// None for a first line that is not one to five figures.
+pub fn number_on_line(input: &[u8]) -> Option<u64>
+    ensures { told result ≡ line_answer input.now }
 {
-    let n = line_length(input);
-    let line = &input[..n];
-    if ((n < 1) | (5 < n)) | !all_figures(line) {
-        return LineAnswer {
-            refusal: 1,
-            number: 0,
-        };
-    }
-    LineAnswer {
-        refusal: 0,
-        number: decimal(line),
+    let line = first_line(input);
+    if is_number(line) {
+        Some(decimal(line))
+    } else {
+        None
     }
 }

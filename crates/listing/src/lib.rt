@@ -6,58 +6,44 @@
 #![tactic(auto)]
 
 use civil_code::Gregorian;
-use show::{date, end, number, plain, refused};
+use newyear::YearAnswer;
+use show::{Date, Refused};
 use std::io;
 
-fn head(out: &impl Print, year: u64, facts: newyear::YearAnswer) -> io::Result<()> {
+fn head(out: &impl Print, year: u64, facts: &YearAnswer) -> io::Result<()> {
     let tishri = molad_code::molad(year, 1);
-    plain(out, year)?;
-    number(out, facts.weekday)?;
-    number(out, facts.length)?;
-    number(out, facts.months)?;
-    number(out, tishri.day)?;
-    number(out, tishri.hour)?;
-    number(out, tishri.part)?;
-    number(out, facts.delay)?;
-    number(out, facts.cause)?;
-    end(out)
+    println!(out;
+        "{year} {} {} {} {} {} {} {} {}",
+        facts.weekday,
+        facts.length,
+        facts.months,
+        tishri.day,
+        tishri.hour,
+        tishri.part,
+        facts.delay,
+        facts.cause
+    )
 }
 
 fn row(out: &impl Print, day: u64) -> io::Result<()> {
     let found = hebrew_code::day_to_hebrew(day);
-    let daylight = civil_code::to_date::<Gregorian>(day);
-    plain(out, found.month)?;
-    number(out, found.day)?;
-    number(out, days::weekday(day).weekday)?;
-    number(out, day)?;
-    date(out, daylight.year, daylight.month, daylight.day)?;
-    end(out)
+    let weekday = days::weekday(day).weekday;
+    let daylight = Date(civil_code::to_date::<Gregorian>(day));
+    println!(out; "{} {} {weekday} {day} {daylight}", found.month, found.day)
 }
 
-fn rows(out: &impl Print, days: &[u64]) -> io::Result<()> {
-    for day in days {
+// The listing of the year on the input's first line, or its refusal. A line that is no number has 0, which is no year.
+pub fn print(out: &impl Print, input: &[u8]) -> io::Result<()> {
+    let year = line_code::number_on_line(input).unwrap_or(0);
+    let facts = newyear_code::year(year);
+    if facts.refusal != 0 {
+        return println!(out; "{}", Refused(facts.refusal));
+    }
+    head(out, year, &facts)?;
+    let mut days = [0; rest_table::REST_ROWS];
+    rest_code::rest_days(1, year, &mut days);
+    for day in &days {
         row(out, *day)?;
     }
     Ok(())
-}
-
-fn year(out: &impl Print, year: u64) -> io::Result<()> {
-    let facts = newyear_code::year(year);
-    if facts.refusal != 0 {
-        return refused(out, facts.refusal);
-    }
-    head(out, year, facts)?;
-    let mut days = [0u64; rest_table::REST_ROWS];
-    rest_code::rest_days(1, year, &mut days);
-    rows(out, &days)
-}
-
-// The listing of the year on the input's first line, or its refusal.
-pub fn print(out: &impl Print, input: &[u8]) -> io::Result<()> {
-    let asked = line_code::number_on_line(input);
-    if asked.refusal != 0 {
-        refused(out, asked.refusal)
-    } else {
-        year(out, asked.number)
-    }
 }

@@ -1,3 +1,4 @@
 pub mod Answers
 pub mod Promises
+pub mod Printed
 pub mod Fixed

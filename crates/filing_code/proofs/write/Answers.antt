@@ -13,5 +13,5 @@ in_room input space told e done = rw (← e) at (written_in_room input space (sy
 pub slice_bounds-space-end : goal.slice_bounds-space-end
 slice_bounds-space-end g c = omega (arith, in_room _ _ _ c.sheet_on_lines-told.ensures.0 c.if-told-ne0.false)
 
-pub slice_bounds-file-end : goal.slice_bounds-file-end
-slice_bounds-file-end g c = sym (length-take-le _ _ (omega (arith, in_room _ _ _ c.sheet_on_lines-told.ensures.0 c.if-told-ne0.false)))
+pub slice_bounds-write_all-end : goal.slice_bounds-write_all-end
+slice_bounds-write_all-end g c = sym (length-take-le _ _ (omega (arith, in_room _ _ _ c.sheet_on_lines-told.ensures.0 c.if-told-ne0.false)))

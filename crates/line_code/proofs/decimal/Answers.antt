@@ -1,21 +1,19 @@
-use Rattle.std.proofs.Common.{◌<◌, length, take, arith}
+use Rattle.std.proofs.Common.{◌≡◌, ◌<◌, ◌≤◌, ◌-◌, length, take, get_or, arith, sym}
 use lib.Seq.{take-suc}
-use mathlib.Core.Path.{sym}
 use native.Mathlib.Numerals.{add-one}
-use Rattle.line.proofs.Lines.{figure_at, decimal_none, decimal_more, below_more}
+use Rattle.line.proofs.Lines.{decimal_none, decimal_more, below_more}
 use Rattle.line_code.proofs.decimal.Goals as goal
 
-pub loop-i-init : goal.loop-i-init
-loop-i-init c = (omega arith, sym decimal_none, omega arith)
+pub loop-byte-init : goal.loop-byte-init
+loop-byte-init c = (sym decimal_none, omega arith)
 
-pub worth-requires : goal.worth-requires
-worth-requires c = figure_at c.args.line.now c.requires.1 c.loop-i.i (omega arith)
-
-pub loop-i-preserved : goal.loop-i-preserved
-loop-i-preserved c =
+pub loop-byte-preserved : goal.loop-byte-preserved
+loop-byte-preserved c =
     let s = c.args.line.now in
-    let h : c.loop-i.i < length s = omega arith in (
-      omega arith,
-      rw (c.loop-i.invariant.1, c.worth.ensures.0, add-one, take-suc s c.loop-i.i 0) (sym (decimal_more (take c.loop-i.i s) _)),
-      below_more c.loop-i.n c.loop-i.i c.worth.result c.loop-i.invariant.2 c.worth.ensures.1,
+    let i = c.loop-byte.byte-index in
+    let h : i < length s = omega arith in
+    let byte : c.from.result ≡ get_or s i 0 - 48 = c.from.ensures in
+    let figure : c.from.result ≤ 9 = omega (arith, byte, (c.requires.1 i h).1) in (
+      rw (c.loop-byte.invariant.0, byte, add-one, take-suc s i 0) (sym (decimal_more (take i s) _)),
+      below_more c.loop-byte.number i c.from.result c.loop-byte.invariant.1 figure,
     )

@@ -1,22 +1,18 @@
-use Rattle.std.proofs.Common.{◌≡◌, true, false, not, ◌||◌, length, take}
-use lib.Seq.{length-take-le}
-use Rattle.laws.specs.Runs.{outside}
-use Rattle.line.specs.Answers.{line_answer, line_of}
+use Rattle.std.proofs.Common.{rules}
+use mathlib.Core.Bool.{false≢true}
+use Rattle.line.specs.Line.{IsNumber}
+use Rattle.line.specs.Answers.{line_answer}
+use Rattle.line.proofs.Answers.{number_told, none_told}
 use Rattle.line_code.proofs.number_on_line.Goals as goal
 
--- The part has as many bytes as the line, and the tests on that part are the definition's.
-pub returns-then-n-all_figures : goal.returns-then-n-all_figures
-unfolding line_answer line_of
-returns-then-n-all_figures c =
-    let l = c.line_length-n in
-    let whole : length (take l.result c.args.input.now) ≡ l.result = length-take-le l.result c.args.input.now l.ensures.0 in
-    let none : outside 1 5 l.result || not c.all_figures.result ≡ true = c.if-n-all_figures.true in
-    rw (← l.ensures.1, whole, ← c.all_figures.ensures, none)
+pub returns-then-is_number : goal.returns-then-is_number
+unfolding line_answer
+returns-then-is_number c =
+    let number : IsNumber c.first_line-line.result.now = c.is_number.ensures.0 (search rules) in
+    rw (c.decimal.ensures, ← number_told _ number, c.first_line-line.ensures)
 
-pub returns : goal.returns
-unfolding line_answer line_of
-returns c =
-    let l = c.line_length-n in
-    let whole : length (take l.result c.args.input.now) ≡ l.result = length-take-le l.result c.args.input.now l.ensures.0 in
-    let one : outside 1 5 l.result || not c.all_figures.result ≡ false = c.if-n-all_figures.false in
-    rw (← l.ensures.1, whole, ← c.all_figures.ensures, one, c.decimal.ensures)
+pub returns-else-is_number : goal.returns-else-is_number
+unfolding line_answer
+returns-else-is_number c =
+    let none : (¬ IsNumber c.first_line-line.result.now) = λ m. false≢true (rw c.if-is_number.false at (c.is_number.ensures.1 m)) in
+    rw (← none_told _ none, c.first_line-line.ensures)
