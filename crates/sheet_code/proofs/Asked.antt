@@ -11,16 +11,12 @@ use Rattle.refusals.specs.declared.Refusal.TheVariants.{BadYear, BadYearCount}
 use Rattle.rest.specs.Wings.{out_of_wings}
 use Rattle.rest_table.specs.Wing.{number_of as wing_number}
 use Rattle.rest_table.specs.declared.wings.Wing.{Wing}
-use Rattle.rest_table.specs.declared.wings.Wing.TheVariants.{Hall, Guest}
 use Rattle.sheet.specs.Sheet.{most_years}
 use Rattle.sheet.specs.Answers.{ends_outside, sheet_answer, sheet_buffer, wing_sheet, wing_sheet_buffer}
 use Rattle.sheet_code.specs.Steps.{written_answer, written_buffer}
+use Rattle.sheet_years.proofs.Wings.{known_wing}
 use Rattle.sheet_years.specs.Asked.{Holds, Refused}
 use Rattle.sheet_years.specs.declared.years.Years.{Years}
-
-known_wing : (w : Wing) → out_of_wings (wing_number w) ≡ false
-known_wing Hall = refl
-known_wing Guest = refl
 
 refused_by :
     {A : Type 0} (answer : ℕ → A) (given : A) (count ends : Bool) (why : Refusal) → count || ends ≡ true → why ≡ cond count BadYearCount BadYear →
@@ -36,7 +32,7 @@ passed_by first second given true ends p = cc
 
 module _ (w : Wing) (wing h n : ℕ) (buffer : List ℕ) (named : wing_number w ≡ wing) where
   wing_good : out_of_wings wing ≡ false
-  wing_good = rw (← named) (known_wing w)
+  wing_good = known_wing w wing named
 
   module _ (why : Refusal) (r : Refused h n why) where
     pub refused_answer : no_list (number_of why) ≡ wing_sheet wing h n buffer
