@@ -1,5 +1,5 @@
 -- What is answered of a year's rows, by what is known of the bytes.
-use mathlib.Core.Path.{◌≡◌, sym, ◌∙◌}
+use mathlib.Core.Path.{◌≡◌, ◌∙◌}
 use mathlib.Core.Bool.{true, false, ◌&&◌}
 use mathlib.Core.List.{List}
 use Prim.Native.Nat.{ℕ, ◌+◌, ◌*◌, ◌-◌, ◌≤◌, ◌<◌}
@@ -13,8 +13,8 @@ use Rattle.refusals.specs.declared.Refusal.{Refusal}
 use Rattle.sheet.specs.Promises.{offset_told, rows_told}
 use Rattle.accepted.specs.Check.{years_told, first_told, loaded_refusal}
 use Rattle.accepted.proofs.Refusal.{accepted}
-use Rattle.loaded.specs.Rows.{no_rows, off_sheet, rows_answer}
-use Rattle.loaded.proofs.Answers.{rows_refused, rows_of_sheet, within_sheet}
+use Rattle.loaded.specs.Rows.{no_rows, rows_answer}
+use Rattle.loaded.proofs.Answers.{rows_refused, rows_of_sheet}
 
 -- Each refusal has a number.
 pub numbered : (why : Refusal) → 1 ≤ number_of why

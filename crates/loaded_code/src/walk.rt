@@ -1,7 +1,8 @@
 // One row after another.
 ghost use Rattle.std.specs.Prelude.{◌≡◌, ◌+◌, ◌≤◌, true, false, MatchOption, length as list_length};
-ghost use Rattle.loaded.specs.Walk.{row_place, has_row, step_at, row_given, begun_at};
-ghost use Rattle.loaded_code.specs.Walker.{begun_on, moved_on};
+ghost use Rattle.loaded.specs.Walk.{row_place, has_row, step_at, begun_at};
+ghost use Rattle.std.specs.Iterator.{at_most};
+ghost use Rattle.loaded_code.specs.Walker.{begun_on, HandsOut, bytes_ahead};
 
 use layout_code::number_at;
 use loaded::{Begun, Row, Stepped};
@@ -66,7 +67,8 @@ pub struct Walker<'a> {
     pub row: u64,
 }
 
-// A walk from the sheet's first row on, with the refusal number, as of `first_row`.
+// A walk from the sheet's first row on, with the refusal number, as of `first_row`. A walk that is refused is begun too, and has
+// ended (theorem `walk_of`), so that the number goes out beside it and not in place of it.
 pub fn begin<'a>(wing: u64, sheet: &'a [u8], refusal: &mut u64) -> Walker<'a>
     ensures { (result ≡ begun_on wing sheet.entry) × (refusal.new ≡ (begun_at wing sheet.now).refusal) }
 {
@@ -75,13 +77,21 @@ pub fn begin<'a>(wing: u64, sheet: &'a [u8], refusal: &mut u64) -> Walker<'a>
     Walker { sheet, row: b.row }
 }
 
-impl<'a> Walker<'a> {
+impl<'a> Iterator for Walker<'a> {
+    type Item = Row;
+
+    ghost next_gives = { HandsOut };
+
+    ghost remaining = { λ walker. at_most (bytes_ahead walker) };
+
     // The next row, until none is left.
-    pub fn next(&mut self) -> Row
-        ensures { (result ≡ row_given self.old.sheet.now self.old.row) × (self.new ≡ moved_on self.old) }
-    {
-        let s = step_at(self.sheet, self.row);
-        self.row = s.next;
-        s.row
+    fn next(&mut self) -> Option<Row> {
+        let step = step_at(self.sheet, self.row);
+        self.row = step.next;
+        if step.row.more == 0 {
+            None
+        } else {
+            Some(step.row)
+        }
     }
 }
