@@ -2,10 +2,16 @@
 // long and is worked with in 64 bits, so that no sum and no product of them wraps.
 #![tactic(auto)]
 
-ghost use Rattle.std.specs.Prelude.{◌≡◌, ◌&&◌, ◌≤◌, eqb, length as list_length};
+ghost use Rattle.std.specs.Prelude.{◌≡◌, ◌&&◌, ◌≤◌, eqb, IfOk, length as list_length};
+ghost use Rattle.refusals.specs.Refusals.{refusal_in};
 ghost use Rattle.layout.specs.Layout.{rows_offset};
 ghost use Rattle.sheet.specs.Promises.{rows_told_before};
-ghost use Rattle.accepted.specs.Check.{years_told, index_placed, placed, loaded_refusal};
+ghost use Rattle.accepted.specs.Check.{years_told, first_told, index_placed, placed, loaded_refusal};
+
+use layout_code::number_at;
+use refusals::Refusal;
+use rest_table::Wing;
+use sheet_years::Years;
 
 // Does the index lead each year to the rows behind those of the years before it, and has it so many rows in all?
 fn index_placed(sheet: &[u8], years: u64, rows: u64) -> bool
@@ -14,12 +20,10 @@ fn index_placed(sheet: &[u8], years: u64, rows: u64) -> bool
 {
     let mut placed = true;
     let mut before = 0;
-    let mut i = 0;
-    while i < years {
+    for i in 0..years {
         let entry = 16 + 8 * i as usize;
-        placed = placed & (layout_code::four_at(sheet, entry) == 16 + 8 * years + 6 * before);
-        before += layout_code::two_at(sheet, entry + 4);
-        i += 1;
+        placed &= number_at::<4>(sheet, entry) == 16 + 8 * years + 6 * before;
+        before += number_at::<2>(sheet, entry + 4);
     }
     placed & (rows == before)
 }
@@ -29,44 +33,32 @@ fn all_placed(sheet: &[u8], years: u64) -> bool
     requires { (16 ≤ list_length sheet.now) × ((years ≡ years_told sheet.now) × (years ≤ 100)) }
     ensures { result ≡ placed sheet.now }
 {
-    let rows = layout_code::four_at(sheet, 4);
-    if layout_code::four_at(sheet, 8) != 16 {
-        return false;
-    }
-    if layout_code::four_at(sheet, 12) != 16 + 8 * years {
-        return false;
-    }
-    if sheet.len() as u64 != 16 + 8 * years + 6 * rows {
-        return false;
-    }
-    index_placed(sheet, years, rows)
+    let rows = number_at::<4>(sheet, 4);
+    let fits = (number_at::<4>(sheet, 8) == 16)
+        & (number_at::<4>(sheet, 12) == 16 + 8 * years)
+        & (sheet.len() as u64 == 16 + 8 * years + 6 * rows);
+    fits && index_placed(sheet, years, rows)
 }
 
-// Why the bytes are not accepted for a sheet of the wing, or 0. Refusal 15: a wing that is neither 1 nor 2. 16: fewer than 16
-// bytes. 17: a count of years, a first or a last year that no writer puts on a sheet. 18: header, index and size do not fit
-// each other. 19: rows, wing byte or year lengths differ from the calendar's.
-pub fn sheet_refusal(wing: u64, sheet: &[u8]) -> u64
-    ensures { result ≡ loaded_refusal wing sheet.now }
+// The years of a sheet of the wing, or why the bytes are not accepted for one. Refusal 15: a wing that is neither 1 nor 2.
+// 16: fewer than 16 bytes. 17: a count of years, a first or a last year that no writer puts on a sheet. 18: header, index and
+// size do not fit each other. 19: rows, wing byte or year lengths differ from the calendar's.
+pub fn accepted_years(wing: u64, sheet: &[u8]) -> Result<Years, Refusal>
+    ensures refusal { refusal_in result ≡ loaded_refusal wing sheet.now }
+    ensures years { IfOk result (λ years. (years.first ≡ first_told sheet.now) × (years.count ≡ years_told sheet.now)) }
 {
-    if rest_table::out_of_wings(wing) {
-        return 15;
-    }
+    let wing = Wing::try_from(wing)?;
     if sheet.len() < 16 {
-        return 16;
+        return Err(Refusal::SheetTooShort);
     }
-    let years = layout_code::two_at(sheet, 0);
-    if (years < 1) | (sheet_code::MOST_YEARS < years) {
-        return 17;
+    let Ok(years) = Years::new(number_at::<2>(sheet, 2), number_at::<2>(sheet, 0)) else {
+        return Err(Refusal::BadSheetYears);
+    };
+    if !all_placed(sheet, years.count) {
+        return Err(Refusal::BadSheetLayout);
     }
-    let first_year = layout_code::two_at(sheet, 2);
-    if sheet_code::ends_outside(first_year, years) {
-        return 17;
+    if !content_code::content_agrees(wing, sheet, years) {
+        return Err(Refusal::BadSheetContent);
     }
-    if !all_placed(sheet, years) {
-        return 18;
-    }
-    if !content_code::content_agrees(wing, sheet, first_year, years) {
-        return 19;
-    }
-    0
+    Ok(years)
 }

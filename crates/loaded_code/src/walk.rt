@@ -1,50 +1,48 @@
 // One row after another.
-ghost use Rattle.std.specs.Prelude.{◌≡◌};
-ghost use Rattle.loaded.specs.Walk.{has_row, step_at, row_given, begun_at};
-ghost use Rattle.loaded_code.specs.Walker.{begun_on, moved_on};
+ghost use Rattle.std.specs.Prelude.{◌≡◌, ◌+◌, ◌≤◌, true, false, MatchOption, length as list_length};
+ghost use Rattle.loaded.specs.Walk.{row_place, has_row, step_at, begun_at};
+ghost use Rattle.std.specs.Iterator.{at_most};
+ghost use Rattle.loaded_code.specs.Walker.{begun_on, HandsOut, bytes_ahead};
 
+use layout_code::number_at;
 use loaded::{Begun, Row, Stepped};
 
 // The row of a walk that has ended before it began: no memory has room for so many.
-const ENDED_ROW: u64 = 18_446_744_073_709_551_615;
+const ENDED_ROW: u64 = u64::MAX;
 
-// Has the sheet a row of this number? The header counts it, and all its bytes are there.
-fn has_row(sheet: &[u8], row: u64) -> bool
-    ensures { result ≡ has_row sheet.now row }
+// Where the row of this number stands, if the sheet has it: the header counts it, and all its bytes are there.
+fn row_place(sheet: &[u8], row: u64) -> Option<usize>
+    ensures { MatchOption result (has_row sheet.now row ≡ false)
+        (λ at. (has_row sheet.now row ≡ true) × (at ≡ row_place sheet.now row) × (at + 6 ≤ list_length sheet.now)) }
 {
     if sheet.len() < 16 {
-        return false;
+        return None;
     }
-    if layout_code::four_at(sheet, 4) <= row {
-        return false;
+    if number_at::<4>(sheet, 4) <= row {
+        return None;
     }
-    16 + 8 * layout_code::two_at(sheet, 0) + 6 * row + 5 < sheet.len() as u64
+    let at = (16 + 8 * number_at::<2>(sheet, 0) + 6 * row) as usize;
+    if at + 5 < sheet.len() { Some(at) } else { None }
 }
 
 // A step: the row of this number and the number after it; where there is no such row, no row and the same number.
 pub fn step_at(sheet: &[u8], row: u64) -> Stepped
     ensures { result ≡ step_at sheet.now row }
 {
-    if has_row(sheet, row) {
-        let at = (16 + 8 * layout_code::two_at(sheet, 0) + 6 * row) as usize;
-        return Stepped {
+    match row_place(sheet, row) {
+        Some(at) => Stepped {
             row: Row {
                 more: 1,
-                first: layout_code::four_at(sheet, at),
-                length: layout_code::one_at(sheet, at + 4),
-                wing: layout_code::one_at(sheet, at + 5),
+                first: number_at::<4>(sheet, at),
+                length: number_at::<1>(sheet, at + 4),
+                wing: number_at::<1>(sheet, at + 5),
             },
             next: row + 1,
-        };
-    }
-    Stepped {
-        row: Row {
-            more: 0,
-            first: 0,
-            length: 0,
-            wing: 0,
         },
-        next: row,
+        None => Stepped {
+            row: Row::default(),
+            next: row,
+        },
     }
 }
 
@@ -53,14 +51,13 @@ pub fn step_at(sheet: &[u8], row: u64) -> Stepped
 pub fn first_row(wing: u64, sheet: &[u8]) -> Begun
     ensures { result ≡ begun_at wing sheet.now }
 {
-    let refusal = accepted_code::sheet_refusal(wing, sheet);
-    if refusal != 0 {
-        return Begun {
-            refusal,
+    match accepted_code::accepted_years(wing, sheet) {
+        Ok(_) => Begun { refusal: 0, row: 0 },
+        Err(why) => Begun {
+            refusal: why.number(),
             row: ENDED_ROW,
-        };
+        },
     }
-    Begun { refusal: 0, row: 0 }
 }
 
 // A sheet, and the number of the row that is handed out next.
@@ -70,7 +67,8 @@ pub struct Walker<'a> {
     pub row: u64,
 }
 
-// A walk from the sheet's first row on, with the refusal number, as of `first_row`.
+// A walk from the sheet's first row on, with the refusal number, as of `first_row`. A walk that is refused is begun too, and has
+// ended (theorem `walk_of`), so that the number goes out beside it and not in place of it.
 pub fn begin<'a>(wing: u64, sheet: &'a [u8], refusal: &mut u64) -> Walker<'a>
     ensures { (result ≡ begun_on wing sheet.entry) × (refusal.new ≡ (begun_at wing sheet.now).refusal) }
 {
@@ -79,13 +77,21 @@ pub fn begin<'a>(wing: u64, sheet: &'a [u8], refusal: &mut u64) -> Walker<'a>
     Walker { sheet, row: b.row }
 }
 
-impl<'a> Walker<'a> {
+impl<'a> Iterator for Walker<'a> {
+    type Item = Row;
+
+    ghost next_gives = { HandsOut };
+
+    ghost remaining = { λ walker. at_most (bytes_ahead walker) };
+
     // The next row, until none is left.
-    pub fn next(&mut self) -> Row
-        ensures { (result ≡ row_given self.old.sheet.now self.old.row) × (self.new ≡ moved_on self.old) }
-    {
-        let s = step_at(self.sheet, self.row);
-        self.row = s.next;
-        s.row
+    fn next(&mut self) -> Option<Row> {
+        let step = step_at(self.sheet, self.row);
+        self.row = step.next;
+        if step.row.more == 0 {
+            None
+        } else {
+            Some(step.row)
+        }
     }
 }

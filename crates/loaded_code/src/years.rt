@@ -1,17 +1,32 @@
 // A year's own rows, in one sheet and in the one of two that is named.
-ghost use Rattle.std.specs.Prelude.{◌≡◌, ◌+◌};
-ghost use Rattle.loaded.specs.Rows.{no_rows, rows_answer, rows_of, named_sheet, named_answer};
+ghost use Rattle.std.specs.Prelude.{◌≡◌, ◌+◌, IfOk};
+ghost use Rattle.refusals.specs.Refusals.{refusal_in};
+ghost use Rattle.loaded.specs.Rows.{rows_answer, rows_of, named_sheet, named_answer};
+ghost use Rattle.loaded_code.specs.Place.{IsPlace};
 
+use layout_code::number_at;
 use loaded::RowsAnswer;
+use refusals::Refusal;
 
-fn no_rows(refusal: u64) -> RowsAnswer
-    ensures { result ≡ no_rows refusal }
+// From which byte of a sheet on a year's rows stand, and how many bytes they are.
+#[derive(Clone, Copy)]
+struct Place {
+    offset: u64,
+    length: u64,
+}
+
+fn year_place(wing: u64, sheet: &[u8], year: u64) -> Result<Place, Refusal>
+    ensures { IsPlace (rows_answer wing sheet.now year) result }
 {
-    RowsAnswer {
-        refusal,
-        offset: 0,
-        length: 0,
+    let years = accepted_code::accepted_years(wing, sheet)?;
+    if !(years.first..years.first + years.count).contains(&year) {
+        return Err(Refusal::BadYear);
     }
+    let entry = 16 + 8 * (year - years.first) as usize;
+    Ok(Place {
+        offset: number_at::<4>(sheet, entry),
+        length: 6 * number_at::<2>(sheet, entry + 4),
+    })
 }
 
 // The place of a year's rows in a wing's sheet. Refusal 15 for a wing that is neither 1 nor 2; 16 to 19 for bytes that are not
@@ -19,34 +34,30 @@ fn no_rows(refusal: u64) -> RowsAnswer
 pub fn rows_place(wing: u64, sheet: &[u8], year: u64) -> RowsAnswer
     ensures { result ≡ rows_answer wing sheet.now year }
 {
-    let refusal = accepted_code::sheet_refusal(wing, sheet);
-    if refusal != 0 {
-        return no_rows(refusal);
-    }
-    let first_year = layout_code::two_at(sheet, 2);
-    if (year < first_year) | (first_year + layout_code::two_at(sheet, 0) - 1 < year) {
-        return no_rows(1);
-    }
-    let entry = 16 + 8 * (year - first_year) as usize;
-    RowsAnswer {
-        refusal: 0,
-        offset: layout_code::four_at(sheet, entry),
-        length: 6 * layout_code::two_at(sheet, entry + 4),
+    match year_place(wing, sheet, year) {
+        Ok(place) => RowsAnswer {
+            refusal: 0,
+            offset: place.offset,
+            length: place.length,
+        },
+        Err(why) => RowsAnswer {
+            refusal: why.number(),
+            ..RowsAnswer::default()
+        },
     }
 }
 
-// A year's rows, still inside the sheet; an empty part of it where the number, as of `rows_place`, is not 0.
-pub fn sheet_rows<'a>(wing: u64, sheet: &'a [u8], year: u64, refusal: &mut u64) -> &'a [u8]
-    ensures { (result.now ≡ rows_of sheet.now (rows_answer wing sheet.now year))
-        × (refusal.new ≡ (rows_answer wing sheet.now year).refusal)
-        × (result.ref_ptr.0 ≡ sheet.entry.ref_ptr.0)
-        × (result.ref_ptr.1 ≡ sheet.entry.ref_ptr.1 + (rows_answer wing sheet.now year).offset) }
+// A year's rows, still inside the sheet. Refused as `rows_place` is.
+pub fn sheet_rows<'a>(wing: u64, sheet: &'a [u8], year: u64) -> Result<&'a [u8], Refusal>
+    ensures refusal { refusal_in result ≡ (rows_answer wing sheet.now year).refusal }
+    ensures part { IfOk result (λ part. (part.now ≡ rows_of sheet.now (rows_answer wing sheet.now year))
+        × (part.ref_ptr.0 ≡ sheet.entry.ref_ptr.0)
+        × (part.ref_ptr.1 ≡ sheet.entry.ref_ptr.1 + (rows_answer wing sheet.now year).offset)) }
 {
-    let place = rows_place(wing, sheet, year);
-    *refusal = place.refusal;
+    let place = year_place(wing, sheet, year)?;
     let start = place.offset as usize;
     let end = start + place.length as usize;
-    &sheet[start..end]
+    Ok(&sheet[start..end])
 }
 
 // The same of two sheets, wing 1's and wing 2's, by the number of the one that is named, which names the wing too. Refusal 15,
@@ -55,26 +66,27 @@ pub fn sheets_place(named: u64, sheet_1: &[u8], sheet_2: &[u8], year: u64) -> Ro
     ensures { result ≡ named_answer named sheet_1.now sheet_2.now year }
 {
     if named == 2 {
-        return rows_place(named, sheet_2, year);
+        rows_place(named, sheet_2, year)
+    } else {
+        rows_place(named, sheet_1, year)
     }
-    rows_place(named, sheet_1, year)
 }
 
-// A year's rows, still inside the sheet that is named; an empty part where the number, as of `sheets_place`, is not 0.
+// A year's rows, still inside the sheet that is named. Refused as `sheets_place` is.
 pub fn sheets_rows<'a>(
     named: u64,
     sheet_1: &'a [u8],
     sheet_2: &'a [u8],
     year: u64,
-    refusal: &mut u64,
-) -> &'a [u8]
-    ensures { (result.now ≡ rows_of (named_sheet named sheet_1.now sheet_2.now) (named_answer named sheet_1.now sheet_2.now year))
-        × (refusal.new ≡ (named_answer named sheet_1.now sheet_2.now year).refusal)
-        × (result.ref_ptr.0 ≡ named_sheet named sheet_1.entry.ref_ptr.0 sheet_2.entry.ref_ptr.0)
-        × (result.ref_ptr.1 ≡ named_sheet named sheet_1.entry.ref_ptr.1 sheet_2.entry.ref_ptr.1 + (named_answer named sheet_1.now sheet_2.now year).offset) }
+) -> Result<&'a [u8], Refusal>
+    ensures refusal { refusal_in result ≡ (named_answer named sheet_1.now sheet_2.now year).refusal }
+    ensures part { IfOk result (λ part. (part.now ≡ rows_of (named_sheet named sheet_1.now sheet_2.now) (named_answer named sheet_1.now sheet_2.now year))
+        × (part.ref_ptr.0 ≡ named_sheet named sheet_1.entry.ref_ptr.0 sheet_2.entry.ref_ptr.0)
+        × (part.ref_ptr.1 ≡ named_sheet named sheet_1.entry.ref_ptr.1 sheet_2.entry.ref_ptr.1 + (named_answer named sheet_1.now sheet_2.now year).offset)) }
 {
     if named == 2 {
-        return sheet_rows(named, sheet_2, year, refusal);
+        sheet_rows(named, sheet_2, year)
+    } else {
+        sheet_rows(named, sheet_1, year)
     }
-    sheet_rows(named, sheet_1, year, refusal)
 }
