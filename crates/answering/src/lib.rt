@@ -1,92 +1,71 @@
-// The numbers of an answer, in the order of its fields, and how they are printed; and bytes that are held.
+// The numbers of an answer, in the order of its fields, and one number for many.
 #![tactic(auto)]
 
-mod slices;
-
-use show::{plain, text};
-pub use slices::{byte_at, first_bytes, sum, wide};
-use std::io;
+use arrayvec::ArrayVec;
+use show::mixed;
+use std::{fmt, io};
 
 // The most fields that an answer has.
 pub const FIELDS: usize = 14;
 
-#[derive(Clone, Copy)]
+// A number below 0 stands there as 2^64 less.
+#[derive(Default, Drop)]
 pub struct Answer {
-    pub count: usize,
-    // A number below 0 stands there as 2^64 less.
-    pub of: [u64; FIELDS],
+    pub fields: ArrayVec<u64, FIELDS>,
 }
 
-// A number that may be below 0, as it stands there.
-pub fn bits(number: i64) -> u64 {
-    let magnitude = show::magnitude(number);
-    if number < 0 {
-        return 0u64.wrapping_sub(magnitude);
-    }
-    magnitude
-}
-
-// No field: the question is not understood.
-pub fn no_answer() -> Answer {
-    Answer {
-        count: 0,
-        of: [0; FIELDS],
-    }
-}
-
-// An answer with more fields; those that it has no room for are left out.
-pub fn more(answer: Answer, numbers: &[u64]) -> Answer {
-    let mut of = answer.of;
-    let mut count = answer.count;
-    for number in numbers {
-        if FIELDS <= count {
-            return Answer { count, of };
+impl Answer {
+    // A field by its place. One that the answer has not is 0, and there is none beyond the most.
+    pub fn field(&self, place: u64) -> Option<u64> {
+        if FIELDS as u64 <= place {
+            return None;
         }
-        of[count] = *number;
-        count += 1;
+        Some(self.fields.get(place as usize).copied().unwrap_or(0))
     }
-    Answer { count, of }
-}
 
-pub fn fields(numbers: &[u64]) -> Answer {
-    more(no_answer(), numbers)
-}
-
-// Field by field, each number mixed into those so far.
-pub fn mixed(sums: Answer, answer: Answer) -> Answer {
-    let mut of = sums.of;
-    let next = answer.of;
-    for i in 0..FIELDS {
-        of[i] = show::mixed(of[i], next[i]);
-    }
-    Answer {
-        count: answer.count,
-        of,
-    }
-}
-
-fn print_field(out: &impl Print, i: usize, number: u64) -> io::Result<()> {
-    if 0 < i {
-        text(out, b" ")?;
-    }
-    if 9_223_372_036_854_775_807 < number {
-        text(out, b"-")?;
-        plain(out, 0u64.wrapping_sub(number))
-    } else {
-        plain(out, number)
-    }
-}
-
-// The fields on a line, one blank apart.
-pub fn print(out: &impl Print, answer: Answer) -> io::Result<()> {
-    if answer.count == 0 {
-        text(out, b"not understood")?;
-    }
-    let of = answer.of;
-    for i in 0..FIELDS {
-        if i < answer.count {
-            print_field(out, i, of[i])?;
+    // Field by field, mixes in an answer's number.
+    pub fn mix(&mut self, next: &Answer) {
+        for (sum, number) in self.fields.iter_mut().zip(next.fields.iter()) {
+            *sum = mixed(*sum, *number);
         }
     }
-    show::end(out)
+}
+
+impl<const N: usize> From<[u64; N]> for Answer {
+    // Those that it has no room for are left out.
+    fn from(numbers: [u64; N]) -> Self {
+        let mut fields = ArrayVec::new();
+        for number in &numbers {
+            let _ = fields.try_push(*number);
+        }
+        Answer { fields }
+    }
+}
+
+// One blank apart.
+impl fmt::Display for Answer {
+    fn fmt<W: fmt::Write>(&self, f: &mut fmt::Formatter<W>) -> fmt::Result {
+        for (i, field) in self.fields.iter().enumerate() {
+            if 0 < i {
+                write!(f, " ")?;
+            }
+            write!(f, "{}", field.cast_signed())?;
+        }
+        Ok(())
+    }
+}
+
+// The answer on a line.
+pub fn print(out: &impl Print, answer: Option<Answer>) -> io::Result<()> {
+    match answer {
+        Some(answer) => println!(out; "{answer}"),
+        None => println!(out; "not understood"),
+    }
+}
+
+// One number for bytes.
+pub fn sum(bytes: &[u8]) -> u64 {
+    bytes
+        .iter()
+        .fold(0, |sum, byte| mixed(sum, u64::from(*byte)))
 }

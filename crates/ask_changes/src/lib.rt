@@ -1,99 +1,93 @@
 // Sheets cut off and changed: how many are refused with each number.
 #![tactic(auto)]
 
-ghost use Rattle.std.specs.Prelude.{◌≤◌, slice_index};
+ghost use Rattle.std.specs.Prelude.{◌<◌, ◌≤◌, length};
 
-use answering::first_bytes;
-use asking::MOST;
-use show::{end, plain, text};
+use std::fmt;
 use std::io;
 
-fn counted(counts: &mut [u64; 20], refusal: u64) {
-    if refusal < 20 {
-        let at = refusal as usize;
-        counts[at] = counts[at].wrapping_add(1);
-    }
+// How many were refused with each number; 0 is that of those that were not. It is no map, since a map takes from the heap.
+#[derive(Drop)]
+struct Counts {
+    of: [u64; 20],
 }
 
-// The refusals that there were, each with its count.
-fn print_counts(out: &impl Print, counts: &[u64; 20]) -> io::Result<bool> {
-    text(out, b"refused")?;
-    for (i, count) in counts.iter().enumerate() {
-        if 0 < *count {
-            show::number(out, i as u64)?;
-            text(out, b":")?;
-            plain(out, *count)?;
+impl Counts {
+    fn new() -> Self {
+        Counts { of: [0; 20] }
+    }
+
+    fn count(&mut self, refusal: u64) {
+        if let Some(count) = self.of.get_mut(refusal as usize) {
+            *count = count.wrapping_add(1);
         }
     }
-    end(out)?;
-    Ok(true)
 }
 
-pub fn print_cuts(out: &impl Print, wing: u64, sheet: &[u8]) -> io::Result<bool> {
-    let mut counts = [0; 20];
-    for n in 0..sheet.len() {
-        counted(
-            &mut counts,
-            accepted_code::sheet_refusal(wing, first_bytes(sheet, n)),
-        );
-    }
-    print_counts(out, &counts)
-}
-
-fn turn(sheet: &mut [u8], at: usize, by: u8) {
-    if at < sheet.len() {
-        sheet[at] = sheet[at].wrapping_add(by);
+// The numbers that there were.
+impl fmt::Display for Counts {
+    fn fmt<W: fmt::Write>(&self, f: &mut fmt::Formatter<W>) -> fmt::Result {
+        write!(f, "refused")?;
+        for (refusal, count) in self.of.iter().enumerate() {
+            if 0 < *count {
+                write!(f, " {refusal}:{count}")?;
+            }
+        }
+        Ok(())
     }
 }
 
-// A byte of the sheet made other values; then it is what it was. The numbers are those of `print_changes`.
-fn change(n: [u64; MOST], space: &mut [u8], length: usize, at: usize, counts: &mut [u64; 20])
-    requires { (1 ≤ slice_index n 2) × (slice_index n 2 ≤ 255) }
-{
-    let mut turned: u64 = 0;
-    while turned < 255 {
-        turn(space, at, n[2] as u8);
-        counted(
-            counts,
-            loaded_code::rows_place(n[0], first_bytes(space, length), n[1]).refusal,
-        );
-        turned += n[2];
+// Each length of the sheet from 0 to its last but one.
+pub fn print_cuts(out: &impl Print, wing: u64, sheet: &[u8]) -> io::Result<()> {
+    let mut counts = Counts::new();
+    for length in 0..sheet.len() {
+        match accepted_code::accepted_years(wing, &sheet[..length]) {
+            Ok(_) => counts.count(0),
+            Err(why) => counts.count(why.number()),
+        }
     }
-    turn(space, at, 1);
+    println!(out; "{counts}")
 }
 
-fn change_bytes(
-    out: &impl Print,
-    n: [u64; MOST],
-    space: &mut [u8],
-    length: usize,
-    to: u64,
-) -> io::Result<bool>
-    requires { (1 ≤ slice_index n 2) × (slice_index n 2 ≤ 255) }
-{
-    let mut counts = [0; 20];
-    for at in n[3]..to {
-        change(n, space, length, at as usize, &mut counts);
-    }
-    print_counts(out, &counts)
+// What a changed sheet is asked for, and how far apart the values are that a byte is made.
+#[derive(Clone, Copy)]
+struct Changes {
+    wing: u64,
+    year: u64,
+    apart: u8,
+    ghost moves: { 1 ≤ apart },
 }
 
-// The wing, the year, how far values are apart, and the bytes from one to before another. 255 has to be a multiple of how far
-// they are apart, so that a last turn by one makes a byte what it was.
+impl Changes {
+    // Makes a byte other values, and then what it was.
+    fn count_at(self, counts: &mut Counts, sheet: &mut [u8], at: usize)
+        requires { at < length sheet.old }
+    {
+        let held = sheet[at];
+        for _ in 0..255 / self.apart {
+            sheet[at] = sheet[at].wrapping_add(self.apart);
+            let rows = loaded_code::rows_place(self.wing, sheet, self.year);
+            counts.count(rows.refusal);
+        }
+        sheet[at] = held;
+    }
+}
+
+// The wing, the year, how far values are apart, and the bytes from one to before another. None unless they lie on the sheet, and
+// 255 is a multiple of how far values are apart.
 pub fn print_changes(
     out: &impl Print,
-    n: [u64; MOST],
-    space: &mut [u8],
-    length: u64,
-) -> io::Result<bool> {
-    if 255 < n[2] {
-        return Ok(false);
+    sheet: &mut [u8],
+    [wing, year, apart, from, to]: [u64; 5],
+) -> Option<io::Result<()>> {
+    let apart = u8::try_from(apart).ok()?;
+    if apart == 0 || 255 % apart != 0 || (sheet.len() as u64) < to {
+        return None;
     }
-    if n[2] < 1 {
-        return Ok(false);
+    let changes = Changes { wing, year, apart };
+    let mut counts = Counts::new();
+    for at in from..to {
+        changes.count_at(&mut counts, sheet, at as usize);
     }
-    if (255 % n[2] != 0) | (length < n[4]) {
-        return Ok(false);
-    }
-    change_bytes(out, n, space, length as usize, n[4])
+    Some(println!(out; "{counts}"))
 }

@@ -2,70 +2,74 @@
 // stand for; a line each for the header, each entry of the index, and each row.
 #![tactic(auto)]
 
-use answering::{byte_at, wide};
+ghost use Rattle.std.specs.Prelude.{◌≤◌};
+
 use std::io;
 
-// The number in so many bytes, at most four.
-fn number_at(sheet: &[u8], at: usize, bytes: u8) -> u64 {
-    let mut n = 0;
-    for left in (0..wide(bytes) as usize).rev() {
-        n = n % 16_777_216 * 256 + wide(byte_at(sheet, at.wrapping_add(left)));
-    }
-    n
+// The number that bytes stand for, the least first.
+fn number(bytes: &[u8]) -> u64 {
+    bytes
+        .iter()
+        .rev()
+        .fold(0, |number, byte| number << 8 | u64::from(*byte))
 }
 
-// Numbers one after another, in as many bytes each as `widths` tells; and where the next begins.
-fn print_numbers(out: &impl Print, sheet: &[u8], from: usize, widths: &[u8]) -> io::Result<usize> {
-    let mut at = from;
-    show::text(out, b" ->")?;
+// As many bytes as there are of so many at the start, and those behind them.
+fn parted(bytes: &[u8], width: usize) -> (&[u8], &[u8]) {
+    bytes.split_at(width.min(bytes.len()))
+}
+
+fn number_at(sheet: &[u8], place: u64, width: usize) -> u64 {
+    number(parted(from(sheet, place), width).0)
+}
+
+// The bytes from a place on, if it lies on the sheet.
+fn from(sheet: &[u8], place: u64) -> &[u8] {
+    parted(sheet, place as usize).1
+}
+
+// An item of so many bytes, and the numbers in it, in as many bytes each as `widths` tells. Behind the end of the sheet there are
+// noughts.
+fn print_item(out: &impl Print, item: &[u8], size: usize, widths: &[usize]) -> io::Result<()> {
+    for byte in item {
+        print!(out; " {byte:02x}")?;
+    }
+    for _ in item.len()..size {
+        print!(out; " 00")?;
+    }
+    print!(out; " ->")?;
+    let mut left = item;
     for width in widths {
-        show::number(out, number_at(sheet, at, *width))?;
-        at = at.wrapping_add(wide(*width) as usize);
+        let (bytes, later) = parted(left, *width);
+        print!(out; " {}", number(bytes))?;
+        left = later;
     }
-    show::end(out)?;
-    Ok(at)
-}
-
-fn print_bytes(out: &impl Print, sheet: &[u8], from: usize, bytes: usize) -> io::Result<()> {
-    for i in 0..bytes {
-        show::byte(out, byte_at(sheet, from.wrapping_add(i)))?;
-    }
-    Ok(())
+    println!(out; "")
 }
 
 // So many entries or rows, as long as they begin on the sheet.
 fn print_items(
     out: &impl Print,
-    sheet: &[u8],
-    from: u64,
+    bytes: &[u8],
     items: u64,
-    bytes: usize,
-    widths: &[u8],
-) -> io::Result<()> {
-    let mut at = from as usize;
-    for _ in 0..items {
-        if sheet.len() <= at {
-            return Ok(());
-        }
-        print_bytes(out, sheet, at, bytes)?;
-        at = print_numbers(out, sheet, at, widths)?;
+    size: usize,
+    widths: &[usize],
+) -> io::Result<()>
+    requires { 1 ≤ size }
+{
+    for item in bytes.chunks(size).take(items as usize) {
+        print_item(out, item, size, widths)?;
     }
     Ok(())
 }
 
 // As many entries and rows as the header tells, from where it tells.
-pub fn print(out: &impl Print, sheet: &[u8]) -> io::Result<bool> {
-    let index = number_at(sheet, 8, 4);
-    let rows = number_at(sheet, 12, 4);
-    print_items(out, sheet, 0, 1, 16, b"\x02\x02\x04\x04\x04")?;
-    print_items(
-        out,
-        sheet,
-        index,
-        number_at(sheet, 0, 2),
-        8,
-        b"\x04\x02\x02",
-    )?;
-    print_items(out, sheet, rows, number_at(sheet, 4, 4), 6, b"\x04\x01\x01")?;
-    Ok(true)
+pub fn print(out: &impl Print, sheet: &[u8]) -> io::Result<()> {
+    let entries = number_at(sheet, 0, 2);
+    let rows = number_at(sheet, 4, 4);
+    let index = from(sheet, number_at(sheet, 8, 4));
+    let listed = from(sheet, number_at(sheet, 12, 4));
+    print_items(out, sheet, 1, 16, &[2, 2, 4, 4, 4])?;
+    print_items(out, index, entries, 8, &[4, 2, 2])?;
+    print_items(out, listed, rows, 6, &[4, 1, 1])
 }

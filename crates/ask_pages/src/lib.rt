@@ -7,92 +7,69 @@
 //     sheet_on_lines 1\0a5787\0a1\0a    the refusal and the count of the sheet program, with 400 bytes lent
 #![tactic(auto)]
 
-ghost use Rattle.std.specs.Prelude.{◌≤◌, ◌<◌, length};
+ghost use Rattle.std.specs.Prelude.{◌<◌, length, IfSome};
 
+use arrayvec::ArrayVec;
+use asking::Question;
 use std::io;
-
-const BACKSLASH: u8 = 92;
 
 // The most bytes that an input has.
 const ROOM: usize = 64;
 
-// The byte that stands at a place, or 256 for a backslash without its figures.
-fn byte_at(text: &[u8], at: usize) -> u64
-    requires { at < length text.now }
+// What a figure to the base 16 stands for.
+fn figure(byte: u8) -> Option<u8>
+    ensures { IfSome result (λ worth. worth < 16) }
 {
-    if text[at] != BACKSLASH {
-        return answering::wide(text[at]);
+    match byte {
+        b'0'..=b'9' => Some(byte - b'0'),
+        b'a'..=b'f' => Some(byte - b'a' + 10),
+        _ => None,
     }
-    if text.len() - at < 3 {
-        return 256;
-    }
-    let high = asking::worth(text[at + 1]);
-    let low = asking::worth(text[at + 2]);
-    if (high == 16) | (low == 16) {
-        return 256;
-    }
-    16 * high + low
 }
 
-// How many bytes stand for the byte that begins with this one.
-fn width(byte: u8) -> usize
-    ensures { (1 ≤ result) × (result ≤ 3) }
+// The first byte of an input, and the text that is left. None at its end, and for a backslash without its figures.
+fn first_byte(text: &[u8]) -> Option<(u8, &[u8])>
+    ensures { IfSome result (λ first. length first.1.now < length text.now) }
 {
-    if byte == BACKSLASH { 3 } else { 1 }
-}
-
-// Answers how many bytes the input has, or more than there is room for if it is none.
-fn read_input(text: &[u8], out: &mut [u8; ROOM]) -> usize {
-    let mut length = 0;
-    let mut at = 0;
-    while at < text.len() {
-        let byte = byte_at(text, at);
-        if 255 < byte {
-            return ROOM + 1;
-        }
-        if ROOM <= length {
-            return ROOM + 1;
-        }
-        out[length] = byte as u8;
-        length += 1;
-        at += width(text[at]);
+    match text {
+        [b'\\', high, low, later @ ..] => Some((16 * figure(*high)? + figure(*low)?, later)),
+        [] | [b'\\', ..] => None,
+        [byte, later @ ..] => Some((*byte, later)),
     }
-    length
 }
 
-fn print_pair(out: &impl Print, refusal: u64, number: u64) -> io::Result<()> {
-    answering::print(out, answering::fields(&[refusal, number]))
+fn read_input(text: &[u8]) -> Option<ArrayVec<u8, ROOM>> {
+    let mut input = ArrayVec::new();
+    let mut left = text;
+    while !left.is_empty() {
+        let (byte, later) = first_byte(left)?;
+        input.try_push(byte).ok()?;
+        left = later;
+    }
+    Some(input)
 }
 
 fn print_number(out: &impl Print, input: &[u8]) -> io::Result<()> {
-    let answer = line_code::number_on_line(input);
-    print_pair(out, answer.refusal, answer.number)
+    match line_code::number_on_line(input) {
+        Some(number) => println!(out; "0 {number}"),
+        None => println!(out; "1 0"),
+    }
 }
 
 fn print_sheet(out: &impl Print, input: &[u8]) -> io::Result<()> {
-    let mut space = [0u8; 400];
+    let mut space = [0; 400];
     let answer = filing_code::sheet_on_lines(input, &mut space);
-    print_pair(out, answer.refusal, answer.count)
+    println!(out; "{} {}", answer.refusal, answer.count)
 }
 
-fn print(out: &impl Print, page: u64, space: &[u8; ROOM], length: usize) -> io::Result<()> {
-    let input = answering::first_bytes(space, length);
-    match page {
-        0 => print_number(out, input),
-        1 => listing::print(out, input),
-        2 => wording_code::print(out, input),
-        _ => print_sheet(out, input),
+// None if the question is no such one.
+pub fn answer(out: &impl Print, question: Question) -> Option<io::Result<()>> {
+    let input = read_input(question.words)?;
+    match question.name {
+        b"number_on_line" => Some(print_number(out, input.as_slice())),
+        b"year_page" => Some(listing::print(out, input.as_slice())),
+        b"notice_page" => Some(wording_code::print(out, input.as_slice())),
+        b"sheet_on_lines" => Some(print_sheet(out, input.as_slice())),
+        _ => None,
     }
-}
-
-// Answers a question, or answers false.
-pub fn answered(out: &impl Print, name: &[u8], text: &[u8]) -> io::Result<bool> {
-    let page = asking::place(b"number_on_line year_page notice_page sheet_on_lines", name);
-    let mut space = [0u8; ROOM];
-    let n = read_input(text, &mut space);
-    if (3 < page) | (ROOM < n) {
-        return Ok(false);
-    }
-    print(out, page, &space, n)?;
-    Ok(true)
 }

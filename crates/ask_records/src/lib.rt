@@ -9,119 +9,96 @@
 //                                          setting, and how many moves on and back left it as set afresh to the day due
 #![tactic(auto)]
 
-use answering::{Answer, fields, more, no_answer};
-use asking::Numbers;
+use answering::Answer;
+use asking::Question;
 use record::{DayRecord, Moved};
 
-fn new_record() -> DayRecord {
-    DayRecord {
-        day: 0,
-        wing: 0,
-        year: 0,
-        month: 0,
-        date: 0,
-        first: 0,
-        length: 0,
-        days_left: 0,
-        none: 0,
-        remaining: 0,
-        fast_month: 0,
-        fast_left: 0,
-        no_fast: 0,
-    }
+fn set(wing: u64, day: u64) -> Moved {
+    record_code::set(DayRecord::default(), wing, day)
 }
 
-fn set(wing: u64, day: u64) -> DayRecord {
-    let m = record_code::set(new_record(), wing, day);
-    m.after
-}
-
-fn told(m: Moved) -> Answer {
-    let r = m.after;
-    let of_day = fields(&[m.refusal, r.day, r.wing, r.year, r.month, r.date]);
-    let of_stretch = more(
-        of_day,
-        &[
-            r.first,
-            r.length,
-            answering::bits(r.days_left),
-            r.none,
-            r.remaining,
-        ],
-    );
-    more(of_stretch, &[r.fast_month, r.fast_left, r.no_fast])
-}
-
-fn same(a: DayRecord, b: DayRecord) -> bool {
-    let of_day = (a.day == b.day)
-        & ((a.wing == b.wing) & ((a.year == b.year) & (a.month == b.month)));
-    let of_year = (a.date == b.date) & (a.remaining == b.remaining);
-    let of_stretch = (a.first == b.first)
-        & ((a.length == b.length) & ((a.days_left == b.days_left) & (a.none == b.none)));
-    let of_fast = (a.fast_month == b.fast_month)
-        & ((a.fast_left == b.fast_left) & (a.no_fast == b.no_fast));
-    of_day & (of_year & (of_stretch & of_fast))
-}
-
-fn moved(on: bool, r: DayRecord) -> DayRecord {
-    if on {
-        let m = record_code::next(r);
-        return m.after;
-    }
-    let m = record_code::back(r);
-    m.after
+fn told(moved: Moved) -> Answer {
+    let r = moved.after;
+    Answer::from([
+        moved.refusal,
+        r.day,
+        r.wing,
+        r.year,
+        r.month,
+        r.date,
+        r.first,
+        r.length,
+        r.days_left.cast_unsigned(),
+        r.none,
+        r.remaining,
+        r.fast_month,
+        r.fast_left,
+        r.no_fast,
+    ])
 }
 
 #[derive(Clone, Copy)]
-struct Course {
-    pub record: DayRecord,
-    pub agreed: u64,
+enum Way {
+    On,
+    Back,
 }
 
-fn walked(on: bool, from: DayRecord, days: u64) -> Course {
-    let mut r = from;
-    let mut agreed: u64 = 0;
-    for passed in 0..days {
-        r = moved(on, r);
-        let due = laws::pick(
-            on,
-            from.day.wrapping_add(passed + 1),
-            from.day.wrapping_sub(passed + 1),
-        );
-        agreed = agreed.wrapping_add(laws::pick(same(r, set(from.wing, due)), 1, 0));
+impl Way {
+    fn moved(self, record: DayRecord) -> DayRecord {
+        match self {
+            Way::On => record_code::next(record).after,
+            Way::Back => record_code::back(record).after,
+        }
     }
-    Course { record: r, agreed }
+
+    // The day that is so many days from another.
+    fn day_at(self, day: u64, days: u64) -> u64 {
+        match self {
+            Way::On => day.wrapping_add(days),
+            Way::Back => day.wrapping_sub(days),
+        }
+    }
+
+    // Moves the record so many days, and answers how many of the moves left it as set afresh to the day due.
+    fn walk(self, record: &mut DayRecord, days: u64) -> u64 {
+        let from = *record;
+        let mut agreed: u64 = 0;
+        for passed in 1..=days {
+            *record = self.moved(*record);
+            let due = self.day_at(from.day, passed);
+            if *record == set(from.wing, due).after {
+                agreed += 1;
+            }
+        }
+        agreed
+    }
 }
 
-fn walk(wing: u64, day: u64, days: u64) -> Answer {
+// No walk is longer than the range.
+fn walk(wing: u64, day: u64, days: u64) -> Option<Answer> {
     if 4_000_000 < days {
-        return no_answer();
+        return None;
     }
-    let m = record_code::set(new_record(), wing, day);
-    if m.refusal != 0 {
-        return fields(&[m.refusal, 0, 0]);
+    let begun = set(wing, day);
+    if begun.refusal != 0 {
+        return Some(Answer::from([begun.refusal, 0, 0]));
     }
-    let on = walked(true, m.after, days);
-    let back = walked(false, on.record, days);
-    fields(&[0, on.agreed, back.agreed])
+    let mut record = begun.after;
+    let on = Way::On.walk(&mut record, days);
+    let back = Way::Back.walk(&mut record, days);
+    Some(Answer::from([0, on, back]))
 }
 
-pub fn answer(name: &[u8], numbers: Numbers) -> Answer {
-    let n = numbers.of;
-    let twice = asking::asked(b"record_set", b"4", name, numbers) == 0;
-    if twice {
-        return told(record_code::set(set(n[0], n[1]), n[2], n[3]));
-    }
-    match asking::asked(
-        b"record_set record_next record_back record_walk",
-        b"2223",
-        name,
-        numbers,
-    ) {
-        0 => told(record_code::set(new_record(), n[0], n[1])),
-        1 => told(record_code::next(set(n[0], n[1]))),
-        2 => told(record_code::back(set(n[0], n[1]))),
-        3 => walk(n[0], n[1], n[2]),
-        _ => no_answer(),
+pub fn answer(question: Question) -> Option<Answer> {
+    match (question.name, question.numbers()?.as_slice()) {
+        (b"record_set", &[wing, day]) => Some(told(set(wing, day))),
+        (b"record_set", &[wing, day, next_wing, next_day]) => {
+            let record = set(wing, day).after;
+            Some(told(record_code::set(record, next_wing, next_day)))
+        }
+        (b"record_next", &[wing, day]) => Some(told(record_code::next(set(wing, day).after))),
+        (b"record_back", &[wing, day]) => Some(told(record_code::back(set(wing, day).after))),
+        (b"record_walk", &[wing, day, days]) => walk(wing, day, days),
+        _ => None,
     }
 }

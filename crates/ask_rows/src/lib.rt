@@ -1,136 +1,137 @@
 // What a loaded sheet is answered with: a year's rows, and what a walk hands out.
 #![tactic(auto)]
 
-use show::{end, mixed, named, number, plain};
+use answering::sum;
+use asking::Run;
+use loaded::{Row, RowsAnswer};
+use refusals::Refusal;
+use show::mixed;
 use std::io;
 
+// Where the rows stand; then of the part that is shown, the refusal, the length and one number for its bytes.
 fn print_place(
     out: &impl Print,
-    place: loaded::RowsAnswer,
-    refusal: u64,
-    part: &[u8],
-) -> io::Result<bool> {
-    plain(out, place.refusal)?;
-    number(out, place.offset)?;
-    number(out, place.length)?;
-    named(out, b"; shown", refusal)?;
-    number(out, part.len() as u64)?;
-    named(out, b":", answering::sum(part))?;
-    end(out)?;
-    Ok(true)
+    place: RowsAnswer,
+    shown: Result<&[u8], Refusal>,
+) -> io::Result<()> {
+    print!(out; "{} {} {}; shown ", place.refusal, place.offset, place.length)?;
+    match shown {
+        Ok(part) => println!(out; "0 {}: {}", part.len(), sum(part)),
+        Err(why) => println!(out; "{} 0: 0", why.number()),
+    }
 }
 
-pub fn print_rows(out: &impl Print, wing: u64, sheet: &[u8], year: u64) -> io::Result<bool> {
-    let mut refusal = 0;
-    let part = loaded_code::sheet_rows(wing, sheet, year, &mut refusal);
-    print_place(
-        out,
-        loaded_code::rows_place(wing, sheet, year),
-        refusal,
-        part,
-    )
+pub fn print_rows(out: &impl Print, wing: u64, sheet: &[u8], year: u64) -> io::Result<()> {
+    let place = loaded_code::rows_place(wing, sheet, year);
+    print_place(out, place, loaded_code::sheet_rows(wing, sheet, year))
 }
 
-pub fn print_rows_of_two<'a>(
+pub fn print_rows_of_two(
     out: &impl Print,
-    number: u64,
-    sheet_1: &'a [u8],
-    sheet_2: &'a [u8],
+    named: u64,
+    sheet_1: &[u8],
+    sheet_2: &[u8],
     year: u64,
-) -> io::Result<bool> {
-    let mut refusal = 0;
-    let part = loaded_code::sheets_rows(number, sheet_1, sheet_2, year, &mut refusal);
-    print_place(
-        out,
-        loaded_code::sheets_place(number, sheet_1, sheet_2, year),
-        refusal,
-        part,
+) -> io::Result<()> {
+    let place = loaded_code::sheets_place(named, sheet_1, sheet_2, year);
+    let part = loaded_code::sheets_rows(named, sheet_1, sheet_2, year);
+    print_place(out, place, part)
+}
+
+// The most calls of a walk: no sheet has so many rows.
+const MOST_CALLS: u64 = 10_000;
+
+// What the calls of a walk hand out: a row each, and when the rows have ended one that says so.
+#[derive(Drop)]
+struct Calls<'a> {
+    sheet: &'a [u8],
+    row: u64,
+}
+
+impl<'a> Iterator for Calls<'a> {
+    type Item = Row;
+
+    fn next(&mut self) -> Option<Row> {
+        let step = loaded_code::step_at(self.sheet, self.row);
+        self.row = step.next;
+        Some(step.row)
+    }
+}
+
+// What refuses the walk; then for each call whether there is a row, its first day, its length and its wing.
+fn print_calls(out: &impl Print, wing: u64, sheet: &[u8], calls: usize) -> io::Result<()> {
+    let begun = loaded_code::first_row(wing, sheet);
+    println!(out; "walk {}", begun.refusal)?;
+    let row = begun.row;
+    for row in (Calls { sheet, row }).take(calls) {
+        println!(out;
+            "row {} {} {} {}",
+            row.more, row.first, row.length, row.wing
+        )?;
+    }
+    Ok(())
+}
+
+fn with_row(sum: u64, first: u64, length: u64, wing: u64) -> u64 {
+    mixed(mixed(mixed(sum, first), length), wing)
+}
+
+fn sum_of_calls(wing: u64, sheet: &[u8], calls: usize) -> u64 {
+    let row = loaded_code::first_row(wing, sheet).row;
+    (Calls { sheet, row }).take(calls).fold(
+        0,
+        |sum, row| with_row(sum, row.first, row.length, row.wing),
     )
 }
 
-// Whether there is a row, its first day, its length and its wing.
-fn print_row(out: &impl Print, row: loaded::Row) -> io::Result<()> {
-    named(out, b"row", row.more)?;
-    number(out, row.first)?;
-    number(out, row.length)?;
-    number(out, row.wing)?;
-    end(out)
-}
-
-fn with_row(sum: u64, row: loaded::Row) -> u64 {
-    mixed(mixed(mixed(sum, row.first), row.length), row.wing)
-}
-
-// So many calls of a walk, printed or mixed into one number.
-fn walk(out: &impl Print, sheet: &[u8], begun: u64, calls: u64, printed: bool) -> io::Result<u64> {
-    let mut sum = 0;
-    let mut row = begun;
-    for _ in 0..calls {
-        let step = loaded_code::step_at(sheet, row);
-        sum = with_row(sum, step.row);
-        if printed {
-            print_row(out, step.row)?;
-        }
-        row = step.next;
+// None for too many calls.
+pub fn print_walk(out: &impl Print, wing: u64, sheet: &[u8], calls: u64) -> Option<io::Result<()>> {
+    if MOST_CALLS < calls {
+        return None;
     }
-    Ok(sum)
+    Some(print_calls(out, wing, sheet, calls as usize))
 }
 
-// Too many calls are not understood: no sheet has so many rows.
-pub fn print_walk(out: &impl Print, wing: u64, sheet: &[u8], calls: u64) -> io::Result<bool> {
-    let begun = loaded_code::first_row(wing, sheet);
-    if calls <= 10_000 {
-        named(out, b"walk", begun.refusal)?;
-        end(out)?;
-        walk(out, sheet, begun.row, calls, true)?;
+// None for too many calls.
+pub fn print_walk_sum(
+    out: &impl Print,
+    wing: u64,
+    sheet: &[u8],
+    calls: u64,
+) -> Option<io::Result<()>> {
+    if MOST_CALLS < calls {
+        return None;
     }
-    Ok(calls <= 10_000)
-}
-
-pub fn print_walk_sum(out: &impl Print, wing: u64, sheet: &[u8], calls: u64) -> io::Result<bool> {
-    if calls <= 10_000 {
-        let begun = loaded_code::first_row(wing, sheet);
-        let sum = walk(out, sheet, begun.row, calls, false)?;
-        plain(out, sum)?;
-        end(out)?;
-    }
-    Ok(calls <= 10_000)
+    Some(println!(out; "{}", sum_of_calls(wing, sheet, calls as usize)))
 }
 
 // The rows of the part that is shown.
-fn with_part(before: u64, part: &[u8]) -> u64 {
-    let mut sum = before;
-    let mut at = 0;
-    while 6 <= part.len() - at {
-        sum = mixed(sum, layout_code::four_at(part, at));
-        sum = mixed(sum, layout_code::one_at(part, at + 4));
-        sum = mixed(sum, layout_code::one_at(part, at + 5));
-        at += 6;
+fn with_part(sum: u64, part: &[u8]) -> u64 {
+    let (rows, _) = part.as_chunks::<6>();
+    rows.iter().fold(sum, |sum, [a, b, c, d, length, wing]| {
+        let first = u32::from_le_bytes([*a, *b, *c, *d]);
+        with_row(sum, u64::from(first), u64::from(*length), u64::from(*wing))
+    })
+}
+
+fn sum_of_years(wing: u64, sheet: &[u8], years: Run) -> u64 {
+    let mut sum = 0;
+    for year in years {
+        if let Ok(part) = loaded_code::sheet_rows(wing, sheet, year) {
+            sum = with_part(sum, part);
+        }
     }
     sum
 }
 
+// None for a run of too many years.
 pub fn print_rows_sum(
     out: &impl Print,
     wing: u64,
     sheet: &[u8],
     first: u64,
     last: u64,
-) -> io::Result<bool> {
-    let after = last.wrapping_sub(first);
-    if 10_000 < after {
-        return Ok(false);
-    }
-    let mut sum = 0;
-    let mut refusal = 0;
-    for i in 0..=after {
-        let year = first.wrapping_add(i);
-        sum = with_part(
-            sum,
-            loaded_code::sheet_rows(wing, sheet, year, &mut refusal),
-        );
-    }
-    plain(out, sum)?;
-    end(out)?;
-    Ok(true)
+) -> Option<io::Result<()>> {
+    let years = Run::new(first, last, 10_001)?;
+    Some(println!(out; "{}", sum_of_years(wing, sheet, years)))
 }

@@ -4,103 +4,101 @@
 //     count marks 1 9999 0 4 1 7      in how many years of a run field 0 is 4 and field 1 is 7, and the first of them, or 0
 #![tactic(auto)]
 
-use answering::{Answer, FIELDS, fields, mixed, no_answer};
-use asking::{Numbers, place};
+use answering::{Answer, FIELDS};
+use ask_dates::OfDay;
+use ask_years::OfYear;
+use asking::{Question, Run};
 
-// The calls of one number, in the order of `ask_dates::of_day` and then of `ask_years::of_year`; and how many they are.
-fn place_of_one(name: &[u8]) -> u64 {
-    place(
-        b"weekday day_to_julian day_to_gregorian shown_date day_to_hebrew year_of_day comes_back stretch_1 stretch_2 new_year new_year_rhodes year kind routes_differ marks months_before rhodes_steps",
-        name,
-    )
+// A call of one number.
+#[derive(Clone, Copy)]
+enum Call {
+    OfDay(OfDay),
+    OfYear(OfYear),
 }
 
-const OF_DAYS: u64 = 9;
-
-const CALLS: u64 = 17;
-
-fn of_one(call: u64, n: u64) -> Answer {
-    if call < OF_DAYS {
-        return ask_dates::of_day(call, n);
+impl Call {
+    fn named(name: &[u8]) -> Option<Self> {
+        match OfDay::named(name) {
+            Some(call) => Some(Call::OfDay(call)),
+            None => OfYear::named(name).map(Call::OfYear),
+        }
     }
-    ask_years::of_year(call - OF_DAYS, n)
-}
 
-fn has(answer: Answer, field: u64, value: u64) -> bool {
-    let of = answer.of;
-    if field < FIELDS as u64 {
-        return of[field as usize] == value;
+    fn answer(self, number: u64) -> Option<Answer> {
+        match self {
+            Call::OfDay(call) => Some(call.answer(number)),
+            Call::OfYear(call) => call.answer(number),
+        }
     }
-    false
 }
 
-// Whether the fields have the values that follow the run's ends, in pairs.
-fn counts(answer: Answer, numbers: Numbers) -> bool {
-    let n = numbers.of;
-    let count = numbers.count;
-    ((count < 4) | has(answer, n[2], n[3]))
-        & ((count < 6) | has(answer, n[4], n[5]))
-        & ((count < 8) | has(answer, n[6], n[7]))
+// The longest run has a number for each day of the range.
+fn run(first: u64, last: u64) -> Option<Run> {
+    Run::new(first, last, 4_000_001)
 }
 
-// A run is no longer than the range.
-fn run(counting: bool, call: u64, numbers: Numbers) -> Answer {
-    let n = numbers.of;
-    let after = n[1].wrapping_sub(n[0]);
-    if 4_000_000 < after {
-        return no_answer();
+// What is not understood adds nothing; a run that ends with it is not understood.
+fn sum(call: Call, run: Run) -> Option<Answer> {
+    let mut sums = Answer::from([0; FIELDS]);
+    let mut fields = None;
+    for number in run {
+        let answer = call.answer(number);
+        fields = answer.as_ref().map(|answer| answer.fields.len());
+        if let Some(answer) = answer {
+            sums.mix(&answer);
+        }
     }
-    let mut sums = no_answer();
+    sums.fields.truncate(fields?);
+    Some(sums)
+}
+
+// Whether each field that is named has the value beside it.
+fn has(answer: &Answer, wanted: &[[u64; 2]]) -> bool {
+    wanted
+        .iter()
+        .all(|[place, value]| answer.field(*place) == Some(*value))
+}
+
+fn count(call: Call, run: Run, wanted: &[[u64; 2]]) -> Answer {
     let mut counted: u64 = 0;
-    let mut found = 0;
-    for i in 0..=after {
-        let number = n[0].wrapping_add(i);
-        let answer = of_one(call, number);
-        let one_more = counts(answer, numbers);
-        sums = mixed(sums, answer);
-        found = laws::pick(one_more & (counted == 0), number, found);
-        counted += laws::pick(one_more, 1, 0);
+    let mut first = None;
+    for number in run {
+        if has(&call.answer(number).unwrap_or_default(), wanted) {
+            counted = counted.wrapping_add(1);
+            first = first.or(Some(number));
+        }
     }
-    if counting {
-        return fields(&[counted, found]);
-    }
-    sums
+    Answer::from([counted, first.unwrap_or(0)])
 }
 
-fn run_asked(counting: bool, words: &[u8]) -> Answer {
-    let call = place_of_one(asking::first_word(words));
-    let numbers = asking::read_numbers(asking::later_words(words));
-    let count = numbers.count;
-    let wanted = (count == 2) | (counting & ((0 < count) & (count % 2 == 0)));
-    if (CALLS <= call) | numbers.below | !wanted {
-        return no_answer();
-    }
-    run(counting, call, numbers)
-}
-
-pub fn answer(line: &[u8]) -> Answer {
-    let name = asking::first_word(line);
-    let words = asking::later_words(line);
-    match place(b"sum count", name) {
-        0 => run_asked(false, words),
-        1 => run_asked(true, words),
-        _ => one(name, asking::read_numbers(words)),
+fn of_run(question: Question) -> Option<Answer> {
+    let asked = question.within();
+    let call = Call::named(asked.name)?;
+    match (question.name, asked.numbers()?.as_slice()) {
+        (b"sum", [first, last]) => sum(call, run(*first, *last)?),
+        (b"count", [first, last, wanted @ ..]) => match wanted.as_chunks::<2>() {
+            (wanted, []) => Some(count(call, run(*first, *last)?, wanted)),
+            _ => None,
+        },
+        _ => None,
     }
 }
 
-fn one(name: &[u8], numbers: Numbers) -> Answer {
-    let n = numbers.of;
-    let call = place_of_one(name);
-    if !numbers.below & (numbers.count == 1) & (call < CALLS) {
-        return of_one(call, n[0]);
+fn of_one(call: Call, question: Question) -> Option<Answer> {
+    match question.numbers()?.as_slice() {
+        [number] => call.answer(*number),
+        _ => None,
     }
-    let answer = ask_dates::answer(name, numbers);
-    if 0 < answer.count {
-        return answer;
+}
+
+pub fn answer(question: Question) -> Option<Answer> {
+    if let b"sum" | b"count" = question.name {
+        return of_run(question);
     }
-    let answer = ask_years::answer(name, numbers);
-    if 0 < answer.count {
-        return answer;
+    match Call::named(question.name) {
+        Some(call) => of_one(call, question),
+        None => ask_dates::answer(question)
+            .or_else(|| ask_years::answer(question))
+            .or_else(|| ask_records::answer(question)),
     }
-    ask_records::answer(name, numbers)
 }

@@ -20,79 +20,61 @@
 // What changes the sheet is answered with its length.
 #![tactic(auto)]
 
-use answering::first_bytes;
-use asking::Numbers;
+use ask_held::Held;
+use asking::Question;
 use std::io;
 
-// Questions that leave the sheet as it is; false if it is none of them.
-fn read<'a>(
+// None if the question is none of those that leave the sheets as they are.
+fn read(
     out: &impl Print,
-    name: &[u8],
-    numbers: Numbers,
-    sheet: &'a [u8],
-    other: &'a [u8],
-) -> io::Result<bool> {
-    let n = numbers.of;
-    let names = b"sheet_rows sheets_rows walk sum_walk sum_rows fields cuts";
-    match asking::asked(names, b"2222301", name, numbers) {
-        0 => ask_rows::print_rows(out, n[0], sheet, n[1]),
-        1 => ask_rows::print_rows_of_two(out, n[0], sheet, other, n[1]),
-        2 => ask_rows::print_walk(out, n[0], sheet, n[1]),
-        3 => ask_rows::print_walk_sum(out, n[0], sheet, n[1]),
-        4 => ask_rows::print_rows_sum(out, n[0], sheet, n[1], n[2]),
-        5 => ask_fields::print(out, sheet),
-        6 => ask_changes::print_cuts(out, n[0], sheet),
-        _ => Ok(false),
-    }
-}
-
-// Questions that change the sheet.
-fn change(
-    out: &impl Print,
-    name: &[u8],
-    numbers: Numbers,
-    sheet: &mut [u8],
+    question: Question,
+    sheet: &[u8],
     other: &[u8],
-    held: &mut [u64; 3],
-) -> io::Result<bool> {
-    let n = numbers.of;
-    let names = b"sheet_write length put copy changes";
-    match asking::asked(names, b"41325", name, numbers) {
-        0 => ask_held::write(out, n, sheet, held),
-        1 => ask_held::lengthen(out, n[0], sheet, held),
-        2 => ask_held::put(out, n, sheet, held[0]),
-        3 => ask_held::copy(out, n, other, sheet, held[0]),
-        4 => ask_changes::print_changes(out, n, sheet, held[0]),
-        _ => read(
-            out,
-            name,
-            numbers,
-            first_bytes(sheet, held[0] as usize),
-            first_bytes(other, held[1] as usize),
-        ),
+) -> Option<io::Result<()>> {
+    match (question.name, question.numbers()?.as_slice()) {
+        (b"sheet_rows", &[wing, year]) => Some(ask_rows::print_rows(out, wing, sheet, year)),
+        (b"sheets_rows", &[named, year]) => {
+            Some(ask_rows::print_rows_of_two(out, named, sheet, other, year))
+        }
+        (b"walk", &[wing, calls]) => ask_rows::print_walk(out, wing, sheet, calls),
+        (b"sum_walk", &[wing, calls]) => ask_rows::print_walk_sum(out, wing, sheet, calls),
+        (b"sum_rows", &[wing, first, last]) => {
+            ask_rows::print_rows_sum(out, wing, sheet, first, last)
+        }
+        (b"fields", &[]) => Some(ask_fields::print(out, sheet)),
+        (b"cuts", &[wing]) => Some(ask_changes::print_cuts(out, wing, sheet)),
+        _ => None,
     }
 }
 
-// Answers a question, or answers false. `held` has the bytes of the sheet, those of the other one, and 1 if the sheet stands
-// in the second space.
-pub fn answered(
+// None if the question is none of those that change the sheets, or cannot be met: then they are as they were.
+fn change(out: &impl Print, question: Question, held: &mut Held) -> Option<io::Result<()>> {
+    match (question.name, question.numbers()?.as_slice()) {
+        (b"sheet_write", &[wing, first_year, years, room]) => {
+            let written = held.sheet.write(wing, first_year, years, room)?;
+            return Some(println!(out; "{written}"));
+        }
+        (b"changes", &[wing, year, apart, from, to]) => {
+            let sheet = held.sheet.bytes_mut();
+            return ask_changes::print_changes(out, sheet, [wing, year, apart, from, to]);
+        }
+        (b"length", &[length]) => held.sheet.set_length(length)?,
+        (b"put", &[at, bytes, number]) => held.sheet.put(at, bytes, number)?,
+        (b"copy", &[from, to]) => held.sheet.copy(&held.other, from, to)?,
+        (b"exchange", &[]) => held.exchange(),
+        _ => return None,
+    }
+    Some(println!(out; "{}", held.sheet.bytes().len()))
+}
+
+// None if the question is no such one, or cannot be met.
+pub fn answer(
     out: &impl Print,
-    line: &[u8],
-    one: &mut [u8],
-    two: &mut [u8],
-    held: &mut [u64; 3],
-) -> io::Result<bool> {
-    let name = asking::first_word(line);
-    let numbers = asking::read_numbers(asking::later_words(line));
-    if asking::asked(b"exchange", b"0", name, numbers) == 0 {
-        let other = held[1];
-        held[1] = held[0];
-        held[0] = other;
-        held[2] = laws::pick(held[2] == 0, 1, 0);
-        return ask_held::told(out, other);
+    question: Question,
+    held: &mut Held,
+) -> Option<io::Result<()>> {
+    match change(out, question, held) {
+        None => read(out, question, held.sheet.bytes(), held.other.bytes()),
+        answered => answered,
     }
-    if held[2] == 1 {
-        return change(out, name, numbers, two, one, held);
-    }
-    change(out, name, numbers, one, two, held)
 }

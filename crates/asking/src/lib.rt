@@ -1,63 +1,52 @@
-// A question is a line of words, one blank apart: a name, then numbers.
+// A question is a line of words, one blank apart: a name, then mostly numbers.
 #![tactic(auto)]
 
-ghost use Rattle.std.specs.Prelude.{◌≡◌, ◌≤◌, length, take};
-
 mod numbers;
+mod runs;
 
-pub use numbers::{LARGEST_SIGNED, MOST, Numbers, read_numbers, worth};
+use arrayvec::ArrayVec;
+use numbers::number;
+pub use numbers::signed;
+pub use runs::Run;
 
-pub const BLANK: u8 = 32;
+// How many numbers a question may have.
+pub const MOST: usize = 8;
 
-// How many bytes the first word has.
-fn word_length(words: &[u8]) -> usize
-    ensures { (result ≤ length words.now) × (result ≡ length (take result words.now)) }
-{
-    line_code::find(words, BLANK)
+const BLANK: u8 = b' ';
+
+#[derive(Clone, Copy)]
+pub struct Question<'a> {
+    pub name: &'a [u8],
+    // What stands behind the name and its blank.
+    pub words: &'a [u8],
 }
 
-pub fn first_word<'a>(words: &'a [u8]) -> &'a [u8] {
-    let n = word_length(words);
-    &words[..n]
-}
-
-pub fn later_words<'a>(words: &'a [u8]) -> &'a [u8] {
-    let n = word_length(words);
-    if n < words.len() {
-        return &words[n + 1..];
-    }
-    &words[n..]
-}
-
-fn is(word: &[u8], name: &[u8]) -> bool {
-    word == name
-}
-
-// The place of a name, from 0, among names one blank apart.
-pub fn place(names: &[u8], name: &[u8]) -> u64 {
-    let mut at = 0;
-    let mut place: u64 = 0;
-    while at < names.len() {
-        let end = at + word_length(&names[at..]);
-        if is(&names[at..end], name) {
-            return place;
+impl<'a> Question<'a> {
+    pub fn new(line: &'a [u8]) -> Self {
+        match line.iter().position(|byte| *byte == BLANK) {
+            Some(end) => Question {
+                name: &line[..end],
+                words: &line[end + 1..],
+            },
+            None => Question {
+                name: line,
+                words: b"",
+            },
         }
-        at = end + 1;
-        place = place.wrapping_add(1);
     }
-    place
-}
 
-// The same of a question: no name's place, unless none of its numbers is below 0, and they are as many as `counts` has at
-// that place, one figure for each name.
-pub fn asked(names: &[u8], counts: &[u8], name: &[u8], numbers: Numbers) -> u64 {
-    let place = place(names, name);
-    if (counts.len() as u64) <= place {
-        return u64::MAX;
+    // The question that begins behind the name.
+    pub fn within(self) -> Self {
+        Question::new(self.words)
     }
-    let wanted = worth(counts[place as usize]);
-    if numbers.below | (wanted != numbers.count as u64) {
-        return u64::MAX;
+
+    // The words, if they are numbers and no more than there may be.
+    pub fn numbers(self) -> Option<ArrayVec<u64, MOST>> {
+        let mut numbers = ArrayVec::new();
+        for word in self.words.split_inclusive(|byte| *byte == BLANK) {
+            let figures = word.strip_suffix(b" ").unwrap_or(word);
+            numbers.try_push(number(figures)?).ok()?;
+        }
+        Some(numbers)
     }
-    place
 }
