@@ -6,7 +6,8 @@
 // Here stand the rules, in specs/, and what follows from them. The code is in `fasts_code`.
 #![tactic(auto)]
 
-// The fast ahead of a day: its month code, and the days left until it.
+// The fast ahead of a day: its month code, and the days left until it. It has a flag and is no Option, since `fast_ahead` is
+// defined by this record, and `FastTold` and `WordsFixed` speak of its flag.
 #[derive(Drop)]
 pub struct Ahead {
     pub month: u64,

@@ -4,5 +4,5 @@ use Rattle.hebrew.specs.declared.YearDate.{YearDate}
 use Rattle.year_dates.specs.Walk.{dates}
 use Rattle.year_dates.specs.declared.walk.Dates.{Dates}
 
-abbrev pub left : Dates → List YearDate
+unfoldable pub left : Dates → List YearDate
 left walk = dates walk.length walk.date.after (walk.length - walk.date.after)

@@ -69,34 +69,30 @@ loop-date-init c = (refl, refl, refl, omega arith, omega arith)
 pub rest_on-rests-requires : goal.rest_on-rests-requires
 rest_on-rests-requires c =
     let t =
-    turn c.args.span.length 0 _ c.dates_from-date-items.result c.into_iter-date-iterator.result c.dates_from-date-items.ensures
-    c.into_iter-date-iterator.ensures.into_iter_gives c.loop-date.yielded c.loop-date.date-iterator c.loop-date.yielded_by _ c.next.new.self c.in-Some.date
-    c.in-Some.is c.next.ensures.steps in
+    turn _ _ _ _ _ c.dates_from-date-items.ensures c.into_iter-date-iterator.ensures.into_iter_gives c.loop-date.yielded _ c.loop-date.yielded_by _ _ _ c.in-Some.is
+    c.next.ensures.steps in
     (omega (arith, c.weekday_of-weekday.ensures), walked_small c.args.span.length c.in-Some.date t.2 c.args.span.is_span.measured (omega (arith, t.0, t.1)))
 
 pub overflow_add-out : goal.overflow_add-out
 overflow_add-out c =
     let t =
-    turn c.args.span.length 0 _ c.dates_from-date-items.result c.into_iter-date-iterator.result c.dates_from-date-items.ensures
-    c.into_iter-date-iterator.ensures.into_iter_gives c.loop-date.yielded c.loop-date.date-iterator c.loop-date.yielded_by _ c.next.new.self c.in-Some.date
-    c.in-Some.is c.next.ensures.steps in
+    turn _ _ _ _ _ c.dates_from-date-items.ensures c.into_iter-date-iterator.ensures.into_iter_gives c.loop-date.yielded _ c.loop-date.yielded_by _ _ _ c.in-Some.is
+    c.next.ensures.steps in
     let s = walked_small c.args.span.length c.in-Some.date t.2 c.args.span.is_span.measured (omega (arith, t.0, t.1)) in
     let m = c.args.span.is_span.small in search rules
 
 pub overflow_sub-out : goal.overflow_sub-out
 overflow_sub-out c =
     let t =
-    turn c.args.span.length 0 _ c.dates_from-date-items.result c.into_iter-date-iterator.result c.dates_from-date-items.ensures
-    c.into_iter-date-iterator.ensures.into_iter_gives c.loop-date.yielded c.loop-date.date-iterator c.loop-date.yielded_by _ c.next.new.self c.in-Some.date
-    c.in-Some.is c.next.ensures.steps in
+    turn _ _ _ _ _ c.dates_from-date-items.ensures c.into_iter-date-iterator.ensures.into_iter_gives c.loop-date.yielded _ c.loop-date.yielded_by _ _ _ c.in-Some.is
+    c.next.ensures.steps in
     omega (arith, t.1, c.loop-date.invariant.3)
 
 pub bounds-out-n : goal.bounds-out-n
 bounds-out-n c =
     let t =
-    turn c.args.span.length 0 _ c.dates_from-date-items.result c.into_iter-date-iterator.result c.dates_from-date-items.ensures
-    c.into_iter-date-iterator.ensures.into_iter_gives c.loop-date.yielded c.loop-date.date-iterator c.loop-date.yielded_by _ c.next.new.self c.in-Some.date
-    c.in-Some.is c.next.ensures.steps in
+    turn _ _ _ _ _ c.dates_from-date-items.ensures c.into_iter-date-iterator.ensures.into_iter_gives c.loop-date.yielded _ c.loop-date.yielded_by _ _ _ c.in-Some.is
+    c.next.ensures.steps in
     let i = c.loop-date.invariant in
     let d : c.in-Some.date.after ≡ length c.loop-date.yielded = omega (arith, t.1) in
     let e = ended c.args.wing c.args.span _ _ _ _ true (rw d at (told c.args.wing c.args.span _ _ _ t.2 c.rest_on-rests.ensures)) i.0 c.if-rests-run.true in
@@ -106,9 +102,8 @@ bounds-out-n c =
 pub bounds-out-n-then-rests-run : goal.bounds-out-n-then-rests-run
 bounds-out-n-then-rests-run c =
     let t =
-    turn c.args.span.length 0 _ c.dates_from-date-items.result c.into_iter-date-iterator.result c.dates_from-date-items.ensures
-    c.into_iter-date-iterator.ensures.into_iter_gives c.loop-date.yielded c.loop-date.date-iterator c.loop-date.yielded_by _ c.next.new.self c.in-Some.date
-    c.in-Some.is c.next.ensures.steps in
+    turn _ _ _ _ _ c.dates_from-date-items.ensures c.into_iter-date-iterator.ensures.into_iter_gives c.loop-date.yielded _ c.loop-date.yielded_by _ _ _ c.in-Some.is
+    c.next.ensures.steps in
     let i = c.loop-date.invariant in
     let d : c.in-Some.date.after ≡ length c.loop-date.yielded = omega (arith, t.1) in
     let e = ended c.args.wing c.args.span _ _ _ _ true (rw d at (told c.args.wing c.args.span _ _ _ t.2 c.rest_on-rests.ensures)) i.0 c.if-rests-run.true in
@@ -118,18 +113,16 @@ bounds-out-n-then-rests-run c =
 pub overflow_add-run : goal.overflow_add-run
 overflow_add-run c =
     let t =
-    turn c.args.span.length 0 _ c.dates_from-date-items.result c.into_iter-date-iterator.result c.dates_from-date-items.ensures
-    c.into_iter-date-iterator.ensures.into_iter_gives c.loop-date.yielded c.loop-date.date-iterator c.loop-date.yielded_by _ c.next.new.self c.in-Some.date
-    c.in-Some.is c.next.ensures.steps in
+    turn _ _ _ _ _ c.dates_from-date-items.ensures c.into_iter-date-iterator.ensures.into_iter_gives c.loop-date.yielded _ c.loop-date.yielded_by _ _ _ c.in-Some.is
+    c.next.ensures.steps in
     let s = walked_small c.args.span.length c.in-Some.date t.2 c.args.span.is_span.measured (omega (arith, t.0, t.1)) in
     let r : c.loop-date.run ≤ 400 = omega (arith, c.loop-date.invariant.3, t.1, s.0) in search rules
 
 pub loop-date-preserved : goal.loop-date-preserved
 loop-date-preserved c =
     let t =
-    turn c.args.span.length 0 _ c.dates_from-date-items.result c.into_iter-date-iterator.result c.dates_from-date-items.ensures
-    c.into_iter-date-iterator.ensures.into_iter_gives c.loop-date.yielded c.loop-date.date-iterator c.loop-date.yielded_by _ c.next.new.self c.in-Some.date
-    c.in-Some.is c.next.ensures.steps in
+    turn _ _ _ _ _ c.dates_from-date-items.ensures c.into_iter-date-iterator.ensures.into_iter_gives c.loop-date.yielded _ c.loop-date.yielded_by _ _ _ c.in-Some.is
+    c.next.ensures.steps in
     let wing = c.args.wing in
     let span = c.args.span in
     let i = c.loop-date.invariant in
@@ -161,9 +154,8 @@ returns c =
     let e = c.args.span.is_span in
     let i = c.loop-date.invariant in
     let q =
-    walk_ended c.args.span.length 0 _ c.dates_from-date-items.result c.into_iter-date-iterator.result c.dates_from-date-items.ensures
-    c.into_iter-date-iterator.ensures.into_iter_gives c.loop-date.yielded c.loop-date.date-iterator c.loop-date.yielded_by _ c.next.new.self c.in-None.is
-    c.next.ensures.steps in
+    walk_ended _ _ _ _ _ c.dates_from-date-items.ensures c.into_iter-date-iterator.ensures.into_iter_gives c.loop-date.yielded _ c.loop-date.yielded_by _ _
+    c.in-None.is c.next.ensures.steps in
     let same =
     rw (← e.days, ← e.begins, ← c.weekday_of-weekday.ensures) at
     (stretches_same

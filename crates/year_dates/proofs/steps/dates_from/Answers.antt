@@ -1,3 +1,4 @@
+use Rattle.year_dates.specs.Left.{left}
 use Rattle.year_dates.proofs.Walked.{walks}
 use Rattle.std.proofs.Common.{arith}
 use Rattle.hebrew.specs.Steps.{year_date}
@@ -7,5 +8,5 @@ pub invariant_of-result : goal.invariant_of-result
 invariant_of-result c = record { is_walk = walks _ _ _ c.requires.0 (omega arith) c.date_after.ensures }
 
 pub returns : goal.returns
-unfolding year_date
+unfolding year_date left
 returns c = rw c.date_after.ensures
