@@ -13,12 +13,12 @@ use Rattle.year_dates.specs.Walk.{dates}
 use Rattle.year_dates.specs.Left.{left}
 use Rattle.year_dates.specs.declared.walk.Dates.{Dates}
 
-dates_long : (len x n : ℕ) → length (dates len x n) ≡ n
+pub dates_long : (len x n : ℕ) → length (dates len x n) ≡ n
 unfolding dates
 dates_long len x zero = refl
 dates_long len x (suc n) = ap suc (dates_long len (suc x) n)
 
-date_at : (len x n i : ℕ) (d : YearDate) → i < n → get_or (dates len x n) i d ≡ year_date len (x + i)
+pub date_at : (len x n i : ℕ) (d : YearDate) → i < n → get_or (dates len x n) i d ≡ year_date len (x + i)
 unfolding dates
 date_at len x zero i d h = absurd (omega arith)
 date_at len x (suc n) zero d h = let z : x + 0 ≡ x = omega arith in rw z
