@@ -15,6 +15,7 @@ use refusals::Refusal;
 use rest_table::Wing;
 use stretch_code::NextStretch;
 
+// The record as a call leaves it: a refusal alters nothing.
 fn left(r: DayRecord, after: Result<DayRecord, Refusal>) -> Moved
     ensures { result ≡ left r after }
 {

@@ -1,14 +1,12 @@
 // The stretch that a record tells.
 ghost use Rattle.std.specs.Prelude.{◌≡◌, true, false, not, leb, ◌||◌, MatchOption};
 ghost use Rattle.days.specs.Range.{InRange};
-ghost use Rattle.rest_table.specs.Wing.{number_of};
 ghost use Rattle.stretch_code.specs.Found.{told, found_answer};
 ghost use Rattle.record.specs.Steps.{lasts, kept, rests, stretch_onward, stretch_backward};
 
 use crate::moves::{Backward, Onward};
 use crate::small_date::SmallDate;
 use record::DayRecord;
-use rest_table::Wing;
 use stretch_code::NextStretch;
 
 // A step, for a day in range: the record's stretch, if it has one that is not over on the day; days left are others. Its
@@ -28,14 +26,6 @@ fn kept(r: &DayRecord, day: u64) -> Option<NextStretch>
     None
 }
 
-// A step, for a day in range and its date: is it a rest day of the wing?
-fn rests(wing: Wing, day: u64, x: SmallDate) -> bool
-    requires { InRange day }
-    ensures { result ≡ rests (number_of wing) day x.date }
-{
-    days::weekday_of(day) == 7 || rest_table::kept(wing, 100 * x.date.month + x.date.date)
-}
-
 impl Onward {
     pub fn stretch(&self) -> Option<NextStretch>
         ensures { found_answer result ≡ stretch_onward self.now.record }
@@ -48,11 +38,19 @@ impl Onward {
 }
 
 impl Backward {
+    // Is the day, of this date, a rest day of the wing?
+    fn rests(&self, x: SmallDate) -> bool
+        ensures { result ≡ rests self.now.record.wing self.now.day x.date }
+    {
+        days::weekday_of(self.day) == 7
+            || rest_table::kept(self.wing, 100 * x.date.month + x.date.date)
+    }
+
     // Is a stretch that is not over the one for the day? Not if the day is the last of another.
     fn stands(&self, first: u64, x: SmallDate) -> bool
         ensures { result ≡ leb first self.now.day || not (rests self.now.record.wing self.now.day x.date) }
     {
-        first <= self.day || !rests(self.wing, self.day, x)
+        first <= self.day || !self.rests(x)
     }
 
     // The date is that of the day before.
