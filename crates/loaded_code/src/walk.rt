@@ -25,7 +25,8 @@ fn row_place(sheet: &[u8], row: u64) -> Option<usize>
     if at + 5 < sheet.len() { Some(at) } else { None }
 }
 
-// A step: the row of this number and the number after it; where there is no such row, no row and the same number.
+// A step: the row of this number and the number after it; where there is no such row, no row and the same number. C is handed
+// the row as it is, so that `more` tells it whether there is one.
 pub fn step_at(sheet: &[u8], row: u64) -> Stepped
     ensures { result ≡ step_at sheet.now row }
 {
@@ -47,7 +48,7 @@ pub fn step_at(sheet: &[u8], row: u64) -> Stepped
 }
 
 // A step: where a walk through a wing's sheet begins. Refused with 15 for the wing, or with 16 to 19 for the bytes, it has
-// ended already.
+// ended already: C's walker is set either way, so that the number stands beside the row.
 pub fn first_row(wing: u64, sheet: &[u8]) -> Begun
     ensures { result ≡ begun_at wing sheet.now }
 {
