@@ -17,6 +17,7 @@ pub fn year_rows(wing: Wing, span: Span, out: &mut [u64]) -> usize
         × (out.new ≡ overwrite out.old (stretch_rows (table_of (number_of wing)) span.year))) }
 {
     let weekday = days::weekday_of(span.new_year);
+    // Entries written so far: a run that has ended takes two, and most dates none.
     let mut n = 0;
     let mut run = 0;
     for date in year_dates::dates_from(span.length, 0) {
