@@ -1,6 +1,8 @@
 // The numbers of an answer, in the order of its fields, and one number for many.
 #![tactic(auto)]
 
+ghost use Rattle.std.specs.Prelude.{◌↔◌, ◌<◌, IsSome};
+
 use arrayvec::ArrayVec;
 use show::mixed;
 use std::{fmt, io};
@@ -16,7 +18,9 @@ pub struct Answer {
 
 impl Answer {
     // A field by its place. One that the answer has not is 0, and there is none beyond the most.
-    pub fn field(&self, place: u64) -> Option<u64> {
+    pub fn field(&self, place: u64) -> Option<u64>
+        ensures { IsSome result ↔ (place < FIELDS) }
+    {
         if FIELDS as u64 <= place {
             return None;
         }

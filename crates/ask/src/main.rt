@@ -11,12 +11,7 @@ use std::io::Read;
 const LONGEST: usize = 1000;
 
 // The first bytes of a line, with its line feed if it has come.
-fn turn(
-    input: &mut impl Read,
-    out: &impl Print,
-    bytes: &[u8],
-    held: &mut Held,
-) -> io::Result<()> {
+fn turn(input: &mut impl Read, out: &impl Print, bytes: &[u8], held: &mut Held) -> io::Result<()> {
     let line = bytes.strip_suffix(b"\n").unwrap_or(bytes);
     if line.len() == LONGEST {
         return ask_plain::pass_line(input, out);

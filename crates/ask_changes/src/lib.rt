@@ -3,8 +3,7 @@
 
 ghost use Rattle.std.specs.Prelude.{◌<◌, ◌≤◌, length};
 
-use std::fmt;
-use std::io;
+use std::{fmt, io};
 
 // How many were refused with each number; 0 is that of those that were not. It is no map, since a map takes from the heap.
 #[derive(Drop)]

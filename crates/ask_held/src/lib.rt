@@ -1,6 +1,8 @@
 // The two sheets that are held.
 #![tactic(auto)]
 
+ghost use Rattle.std.specs.Prelude.{◌≡◌};
+
 mod held_sheet;
 
 pub use held_sheet::{Sheet, Written};
@@ -21,7 +23,10 @@ impl Held {
     }
 
     // The sheet becomes the other one, and the other the sheet.
-    pub fn exchange(&mut self) {
+    pub fn exchange(&mut self)
+        ensures sheet { self.new.sheet ≡ self.old.other }
+        ensures other { self.new.other ≡ self.old.sheet }
+    {
         mem::swap(&mut self.sheet, &mut self.other);
     }
 }

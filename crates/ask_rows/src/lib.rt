@@ -14,7 +14,10 @@ fn print_place(
     place: RowsAnswer,
     shown: Result<&[u8], Refusal>,
 ) -> io::Result<()> {
-    print!(out; "{} {} {}; shown ", place.refusal, place.offset, place.length)?;
+    print!(out;
+        "{} {} {}; shown ",
+        place.refusal, place.offset, place.length
+    )?;
     match shown {
         Ok(part) => println!(out; "0 {}: {}", part.len(), sum(part)),
         Err(why) => println!(out; "{} 0: 0", why.number()),

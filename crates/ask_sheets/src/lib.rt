@@ -68,11 +68,7 @@ fn change(out: &impl Print, question: Question, held: &mut Held) -> Option<io::R
 }
 
 // None if the question is no such one, or cannot be met.
-pub fn answer(
-    out: &impl Print,
-    question: Question,
-    held: &mut Held,
-) -> Option<io::Result<()>> {
+pub fn answer(out: &impl Print, question: Question, held: &mut Held) -> Option<io::Result<()>> {
     match change(out, question, held) {
         None => read(out, question, held.sheet.bytes(), held.other.bytes()),
         answered => answered,

@@ -1,4 +1,5 @@
 // A run of numbers that is asked.
+ghost use Rattle.std.specs.Prelude.{◌↔◌, ◌<◌, ◌+◌, ◌-◌, ◌%◌, ◌^◌, IsSome};
 ghost use Rattle.std.specs.Iterator.{at_most};
 
 // From a first number to a last one; after the largest of all comes 0.
@@ -10,7 +11,9 @@ pub struct Run {
 
 impl Run {
     // A run of at most so many numbers.
-    pub fn new(first: u64, last: u64, most: u64) -> Option<Self> {
+    pub fn new(first: u64, last: u64, most: u64) -> Option<Self>
+        ensures { IsSome result ↔ ((last + 2 ^ 64 - first) % 2 ^ 64 < most) }
+    {
         let after = last.wrapping_sub(first);
         if most <= after {
             return None;
