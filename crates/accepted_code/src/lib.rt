@@ -57,7 +57,7 @@ pub fn accepted_years(wing: u64, sheet: &[u8]) -> Result<Years, Refusal>
     if !all_placed(sheet, years.count) {
         return Err(Refusal::BadSheetLayout);
     }
-    if !content_code::content_agrees(wing, sheet, years) {
+    if !content_code::content_agrees(wing.number(), sheet, years) {
         return Err(Refusal::BadSheetContent);
     }
     Ok(years)

@@ -60,7 +60,7 @@ fn afresh(wing: u64, day: u64) -> Result<DayRecord, Refusal>
     let wing = Wing::try_from(wing)?;
     let span = newyear_code::span_of_day(day)?;
     let x = dates::dated_in(day, span);
-    let s = stretch_code::stretch_in(wing, day, span);
+    let s = stretch_code::asked::stretch_in(wing, day, span);
     Ok(joined(wing, day, x.date, s, fasts_code::ahead_in(day, span)))
 }
 

@@ -42,8 +42,7 @@ impl Backward {
     fn rests(&self, x: SmallDate) -> bool
         ensures { result ≡ rests self.now.record.wing self.now.day x.date }
     {
-        days::weekday_of(self.day) == 7
-            || rest_table::kept(self.wing, 100 * x.date.month + x.date.date)
+        days::weekday_of(self.day) == 7 || self.wing.kept(100 * x.date.month + x.date.date)
     }
 
     // Is a stretch that is not over the one for the day? Not if the day is the last of another.

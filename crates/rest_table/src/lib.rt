@@ -5,7 +5,6 @@ ghost use Rattle.std.specs.Prelude.{◌≡◌, ◌≤◌};
 ghost use Rattle.laws.specs.Runs.{elem};
 ghost use Rattle.rest.specs.Wings.{table_of};
 ghost use Rattle.rest.specs.Steps.{rest_on};
-ghost use Rattle.rest_table.specs.Wing.{number_of};
 
 mod wings;
 
@@ -25,23 +24,19 @@ pub static GUEST_TABLE: [u64; GUEST_ROWS] = [
     1_01, 1_02, 1_10, 1_15, 1_16, 1_22, 1_23, 8_15, 8_16, 8_21, 8_22, 10_06, 10_07,
 ];
 
-// Is there such a row in the wing's table?
-pub fn kept(wing: Wing, row: u64) -> bool
-    ensures { result ≡ elem row (table_of (number_of wing)) }
+// Is there such a row in the table of the wing that answers for a number? It stays, for any number, since docs/DECISIONS.md
+// names it.
+pub fn kept(wing: u64, row: u64) -> bool
+    ensures { result ≡ elem row (table_of wing) }
 {
-    match wing {
-        Wing::Hall => REST_TABLE.contains(&row),
-        Wing::Guest => GUEST_TABLE.contains(&row),
-    }
+    Wing::of(wing).kept(row)
 }
 
-// A step, for dates of a year whose New Year falls on this weekday, which may be counted on past 7: is it a rest day?
-pub fn rest_on(wing: Wing, weekday: u64, date: YearDate) -> bool
+// Is it a rest day of the wing that answers for a number, as `Wing::rest_on` tells? It stays, for any number, since a note in
+// docs/requests names it.
+pub fn rest_on(wing: u64, weekday: u64, date: YearDate) -> bool
     requires { (weekday ≤ 400) × ((date.after ≤ 400) × ((date.month ≤ 13) × (date.day ≤ 400))) }
-    ensures { result ≡ rest_on (table_of (number_of wing)) weekday date }
+    ensures { result ≡ rest_on (table_of wing) weekday date }
 {
-    if (weekday + date.after) % 7 == 0 {
-        return true;
-    }
-    kept(wing, 100 * date.month + date.day)
+    Wing::of(wing).rest_on(weekday, date)
 }

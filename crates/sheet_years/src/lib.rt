@@ -22,7 +22,7 @@ fn rows_in(wing: Wing, span: Span) -> u64
     ensures { (result ≡ rows_in (number_of wing) span.year) × (result ≤ 60) }
 {
     let mut list = [0u64; stretches_code::STRETCHES_ROOM];
-    stretches_code::year_rows(wing, span, &mut list) as u64 / 2
+    stretches_code::rows::year_rows(wing, span, &mut list) as u64 / 2
 }
 
 // How many rows the years have.
@@ -53,7 +53,7 @@ fn write_year(wing: Wing, span: Span, out: &mut [u8], at: usize) -> usize
         × (out.new ≡ sets out.old at (year_rows (number_of wing) span.year))) }
 {
     let mut list = [0u64; stretches_code::STRETCHES_ROOM];
-    let entries = stretches_code::year_rows(wing, span, &mut list);
+    let entries = stretches_code::rows::year_rows(wing, span, &mut list);
     write_list(wing, &list[..entries], out, at);
     entries / 2
 }

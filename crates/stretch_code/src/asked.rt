@@ -63,12 +63,11 @@ fn asked(wing: u64, day: u64) -> Result<NextStretch, Refusal>
     stretch_in(wing, day, span).ok_or(Refusal::NoStretch)
 }
 
-// Refusal 15 for a wing that is neither 1 nor 2; 4 for a day outside the range; 9 where no stretch in range ends on or
-// after the day.
-pub fn stretch(wing: u64, day: u64) -> StretchAnswer
-    ensures { result ≡ wing_stretch wing day }
+// What is told of a stretch that was asked for, or why there is none.
+pub fn answered(next: Result<NextStretch, Refusal>) -> StretchAnswer
+    ensures { result ≡ asked_answer next }
 {
-    match asked(wing, day) {
+    match next {
         Ok(s) => StretchAnswer {
             refusal: 0,
             first: s.first,
@@ -80,4 +79,12 @@ pub fn stretch(wing: u64, day: u64) -> StretchAnswer
             ..StretchAnswer::default()
         },
     }
+}
+
+// Refusal 15 for a wing that is neither 1 nor 2; 4 for a day outside the range; 9 where no stretch in range ends on or
+// after the day.
+pub fn stretch(wing: u64, day: u64) -> StretchAnswer
+    ensures { result ≡ wing_stretch wing day }
+{
+    answered(asked(wing, day))
 }

@@ -2,10 +2,12 @@
 // of one year: it walks through their dates from one to the next and asks each whether it is a rest day.
 #![tactic(auto)]
 
-mod asked;
+pub mod asked;
+mod by_number;
 mod found;
 mod runs;
 mod year_days;
 
-pub use asked::{days_left, stretch, stretch_from, stretch_in};
+pub use asked::{days_left, stretch, stretch_from};
+pub use by_number::stretch_in;
 pub use found::NextStretch;

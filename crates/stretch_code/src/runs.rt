@@ -25,7 +25,7 @@ impl YearDays {
         requires { (date.after ≤ 400) × ((date.month ≤ 13) × (date.day ≤ 400)) }
         ensures { result ≡ rest_on (table_of (number_of self.wing)) self.weekday date }
     {
-        rest_table::rest_on(self.wing, self.weekday, date)
+        self.wing.rest_on(self.weekday, date)
     }
 
     // The first date from this one on that is wanted; the day after the year where there is none.

@@ -2,17 +2,32 @@
 // the dates of the year from one to the next, and lists a run of rest days when it has ended.
 #![tactic(auto)]
 
-mod rows;
+pub mod rows;
 
-ghost use Rattle.std.specs.Prelude.{◌≡◌};
+ghost use Rattle.std.specs.Prelude.{◌≡◌, ◌≤◌, length as list_length};
+ghost use Rattle.laws.specs.Buffer.{overwrite};
+ghost use Rattle.rest.specs.Wings.{table_of};
+ghost use Rattle.stretches.specs.Stretches.{stretch_rows};
+ghost use Rattle.stretches.specs.Promises.{stretches_room};
 ghost use Rattle.stretches.specs.Answers.{wing_stretches, wing_stretches_buffer};
 
 use lists::ListAnswer;
+use newyear_code::Span;
 use refusals::Refusal;
-pub use rows::year_rows;
+use rest_table::Wing;
 
 // The most entries that the stretches of a year take, in either wing.
 pub const STRETCHES_ROOM: usize = 120;
+
+// A step: the same rows as `rows::year_rows`, by a wing's number, for any number: the definition of a sheet's content speaks of
+// any.
+pub fn year_rows(wing: u64, span: Span, out: &mut [u64]) -> usize
+    requires { stretches_room ≤ list_length out.old }
+    ensures { (result ≡ list_length (stretch_rows (table_of wing) span.year)) × ((result ≤ stretches_room)
+        × (out.new ≡ overwrite out.old (stretch_rows (table_of wing) span.year))) }
+{
+    rows::year_rows(Wing::of(wing), span, out)
+}
 
 // First day and length of each stretch that begins in the year, rising, two entries each. Refusal 15 for a wing that is
 // neither 1 nor 2; 1 for a year outside 1..9999; 10 for a buffer that is too short, telling how many entries are wanted;
@@ -29,7 +44,7 @@ pub fn stretches(wing: u64, year: u64, out: &mut [u64]) -> ListAnswer
     };
     // An array of fixed size with a count beside it, since this library has no heap.
     let mut rows = [0u64; STRETCHES_ROOM];
-    let wanted = year_rows(wing, span, &mut rows);
+    let wanted = rows::year_rows(wing, span, &mut rows);
     if out.len() < wanted {
         return ListAnswer {
             refusal: Refusal::BufferTooShort as u64,

@@ -21,7 +21,7 @@ pub fn year_rows(wing: Wing, span: Span, out: &mut [u64]) -> usize
     let mut n = 0;
     let mut run = 0;
     for date in year_dates::dates_from(span.length, 0) {
-        let rests = rest_table::rest_on(wing, weekday, date);
+        let rests = wing.rest_on(weekday, date);
         if !rests & (0 < run) {
             out[n] = span.new_year + date.after - run;
             out[n + 1] = run;

@@ -2,7 +2,6 @@
 use mathlib.Core.Path.{refl, sym, ◌∙◌}
 use native.Mathlib.Omega.{arith}
 use Rattle.laws.specs.Runs.{every}
-use Rattle.rest_table.specs.Wing.{number_of}
 use Rattle.content.specs.Content.{content_agrees}
 use Rattle.content_code.proofs.Compared.{year_more, year_differs}
 use Rattle.content_code.proofs.content_agrees.Goals as goal
@@ -15,10 +14,10 @@ pub returns-then-not-year_agrees : goal.returns-then-not-year_agrees
 returns-then-not-year_agrees c =
     let a = c.args in
     let e = rw c.year_span.ensures at c.year_agrees.ensures in
-    sym (year_differs (number_of a.wing) a.sheet.now a.years.first a.years.count c.loop-i.i (omega arith) (sym e ∙ c.if-not-year_agrees.true))
+    sym (year_differs a.wing a.sheet.now a.years.first a.years.count c.loop-i.i (omega arith) (sym e ∙ c.if-not-year_agrees.true))
 
 pub loop-i-preserved : goal.loop-i-preserved
 loop-i-preserved c =
     let a = c.args in
     let e = rw c.year_span.ensures at c.year_agrees.ensures in
-    rw (year_more (number_of a.wing) a.sheet.now a.years.first c.loop-i.i, c.loop-i.invariant, ← e) c.if-not-year_agrees.false
+    rw (year_more a.wing a.sheet.now a.years.first c.loop-i.i, c.loop-i.invariant, ← e) c.if-not-year_agrees.false

@@ -3,7 +3,6 @@ use mathlib.Core.Path.{refl, sym, ◌∙◌}
 use native.Mathlib.Omega.{arith}
 use Rattle.laws.specs.Runs.{every}
 use Rattle.content.specs.Content.{rows_agree}
-use Rattle.rest_table.specs.Wing.{number_of}
 use Rattle.sheet_years.proofs.Pairs.{one_left, first_of_pair, second_of_pair, left_behind}
 use Rattle.content_code.proofs.Compared.{row_more}
 use Rattle.content_code.proofs.rows_agree.Goals as goal
@@ -18,7 +17,7 @@ loop-k-init c =
 pub loop-k-preserved : goal.loop-k-preserved
 loop-k-preserved c =
     let a = c.args in
-    let wing = number_of a.wing in
+    let wing = a.wing in
     let list = a.list.now in
     let l = c.loop-k in
     let k = l.k-iterator.count in
