@@ -22,6 +22,7 @@ pub struct Figures {
     pub charge: u64,
 }
 
+// C is given this by bd_charge_start: the refusal is a number, and zeros stand beside it.
 #[repr(C)]
 #[derive(Default, Drop)]
 pub struct ChargeAnswer {

@@ -10,6 +10,7 @@
 #![tactic(auto)]
 
 // The day number of a civil date, or why there is none.
+// C is given this by bd_julian_to_day and bd_gregorian_to_day: the refusal is a number, and zeros stand beside it.
 #[repr(C)]
 #[derive(Default, Drop)]
 pub struct CivilDay {
@@ -18,6 +19,7 @@ pub struct CivilDay {
 }
 
 // The civil date of a day number, or why there is none.
+// C is given this by bd_day_to_julian and bd_day_to_gregorian: the refusal is a number, and zeros stand beside it.
 #[repr(C)]
 #[derive(Default, Drop)]
 pub struct CivilDate {

@@ -16,6 +16,7 @@ pub const FIRST_DAY: u64 = 347_998;
 // 29 Elul 9999.
 pub const LAST_DAY: u64 = 4_000_075;
 
+// C is given this by bd_weekday: the refusal is a number, and zeros stand beside it.
 #[repr(C)]
 #[derive(Default, Drop)]
 pub struct WeekdayAnswer {
@@ -27,7 +28,7 @@ pub struct WeekdayAnswer {
 pub fn out_of_range(day: u64) -> bool
     ensures { result ≡ out_of_range day }
 {
-    (day < FIRST_DAY) | (LAST_DAY < day)
+    !(FIRST_DAY..=LAST_DAY).contains(&day)
 }
 
 // A seventh of 2 to the 25th, rounded up.

@@ -8,7 +8,7 @@
 // Here stand the rules, in specs/, and what follows from them. The code is in `delays_code`.
 #![tactic(auto)]
 
-// The days from the molad to New Year, and their cause.
+// The days from the molad to New Year, and their cause: numbers that C is told, and that add up without a branch.
 #[derive(Drop)]
 pub struct Delayed {
     pub delay: u64,

@@ -8,6 +8,7 @@
 // `hebrew_code`.
 #![tactic(auto)]
 
+// C is given this by bd_month_length: the refusal is a number, and zeros stand beside it.
 #[repr(C)]
 #[derive(Default, Drop)]
 pub struct MonthAnswer {
@@ -15,6 +16,7 @@ pub struct MonthAnswer {
     pub days: u64,
 }
 
+// C is given this by bd_hebrew_to_day: the refusal is a number, and zeros stand beside it.
 #[repr(C)]
 #[derive(Default, Drop)]
 pub struct HebrewDay {
@@ -22,6 +24,7 @@ pub struct HebrewDay {
     pub day: u64,
 }
 
+// C is given this by bd_day_to_hebrew: the refusal is a number, and zeros stand beside it.
 #[repr(C)]
 #[derive(Default, Drop)]
 pub struct HebrewDate {
@@ -35,7 +38,8 @@ pub struct HebrewDate {
     pub day_of_year: u64,
 }
 
-// A date of a year.
+// A date of a year. It may hold any numbers, as the definition `tomorrow` makes one of any; where they must be small, a clause
+// says so.
 #[derive(Clone, Copy)]
 pub struct YearDate {
     // Days after New Year.

@@ -3,6 +3,7 @@
 // Here stand the rules, in specs/, and what follows from them. The crates whose lists they are have the code.
 #![tactic(auto)]
 
+// C is given this by every call that lists or writes: the refusal is a number, and 10 tells the room wanted beside it.
 #[repr(C)]
 #[derive(Default, Drop)]
 pub struct ListAnswer {

@@ -7,7 +7,8 @@
 // `loaded_code`.
 #![tactic(auto)]
 
-// A row: the first day and the length of a stretch, and its wing. Where no row is left `more` is 0, as is all else; else 1.
+// A row: the first day and the length of a stretch, and its wing. Where no row is left `more` is 0, as is all else; else 1:
+// C is given it by bd_walk_next.
 #[repr(C)]
 #[derive(Clone, Copy, Default)]
 pub struct Row {
@@ -24,7 +25,8 @@ pub struct Stepped {
     pub next: u64,
 }
 
-// Why no walk begins, or 0, and the number of its first row.
+// Why no walk begins, or 0, and the number of its first row, as the definition `begun_at` tells and C is given it by
+// bd_walk_begin.
 #[derive(Drop)]
 pub struct Begun {
     pub refusal: u64,
@@ -32,6 +34,7 @@ pub struct Begun {
 }
 
 // Where a year's rows stand: from which byte of the sheet on, and how many bytes they are.
+// C is given this by bd_sheet_rows and bd_sheets_rows: the refusal is a number, and zeros stand beside it.
 #[repr(C)]
 #[derive(Default, Drop)]
 pub struct RowsAnswer {

@@ -11,6 +11,7 @@
 // Here stand the rules, in specs/, and what follows from them. The code is in `molad_code`.
 #![tactic(auto)]
 
+// C is given this by bd_molad: the refusal is a number, and zeros stand beside it.
 #[repr(C)]
 #[derive(Default, Drop)]
 pub struct MoladAnswer {

@@ -8,6 +8,7 @@
 // Here stand the rules, in specs/, and what follows from them. The code is in `newyear_code`.
 #![tactic(auto)]
 
+// C is given this by bd_new_year and bd_new_year_rhodes: the refusal is a number, and zeros stand beside it.
 #[repr(C)]
 #[derive(Default, Drop, PartialEq)]
 pub struct NewYearAnswer {
@@ -21,6 +22,7 @@ pub struct NewYearAnswer {
     pub cause: u64,
 }
 
+// C is given this by bd_year: the refusal is a number, and zeros stand beside it.
 #[repr(C)]
 #[derive(Default, Drop)]
 pub struct YearAnswer {
@@ -33,6 +35,7 @@ pub struct YearAnswer {
     pub cause: u64,
 }
 
+// C is given this by bd_kind: the refusal is a number, and zeros stand beside it.
 #[repr(C)]
 #[derive(Default, Drop)]
 pub struct KindAnswer {
@@ -42,6 +45,7 @@ pub struct KindAnswer {
     pub length: u64,
 }
 
+// C is given this by bd_year_of_day: the refusal is a number, and zeros stand beside it.
 #[repr(C)]
 #[derive(Default, Drop)]
 pub struct YearOfDayAnswer {

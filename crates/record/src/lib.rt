@@ -7,6 +7,7 @@
 // Here stand the rules, in specs/, and what follows from them. The code is in `record_code`.
 #![tactic(auto)]
 
+// C keeps it, as bd_record: so its wing is a number, and a flag stands beside the stretch and the fast.
 #[repr(C)]
 #[derive(Clone, Copy, Default, PartialEq)]
 pub struct DayRecord {
@@ -29,7 +30,7 @@ pub struct DayRecord {
     pub no_fast: u64,
 }
 
-// A call's refusal number, and the record as the call leaves it.
+// A call's refusal number, and the record as the call leaves it: what the definitions `set_to`, `next_of` and `back_of` tell.
 #[derive(Drop)]
 pub struct Moved {
     pub refusal: u64,

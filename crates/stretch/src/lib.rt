@@ -6,6 +6,7 @@
 // Here stand the rules, in specs/, and what follows from them. The code is in `stretch_code`.
 #![tactic(auto)]
 
+// C is given this by bd_stretch: the refusal is a number, and zeros stand beside it.
 #[repr(C)]
 #[derive(Default, Drop)]
 pub struct StretchAnswer {
