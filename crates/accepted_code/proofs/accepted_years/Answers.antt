@@ -31,10 +31,12 @@ pub returns-then-not-content_agrees-clause-refusal : goal.returns-then-not-conte
 returns-then-not-content_agrees-clause-refusal c =
     let y = rw (c.number_at.ensures.0, c.number_at-2.ensures.0) at c.in-Ok.ensures in
     let p = sym c.all_placed.ensures ∙ c.if-not-all_placed.false in
-    sym (different c.in_ok-wing.wing c.args.wing c.args.sheet.now c.in_ok-wing.ensures c.if-sheet-lt16.false c.in-Ok.years y p (sym c.content_agrees.ensures ∙ c.if-not-content_agrees.true))
+    let a = rw c.number.ensures at c.content_agrees.ensures in
+    sym (different c.in_ok-wing.wing c.args.wing c.args.sheet.now c.in_ok-wing.ensures c.if-sheet-lt16.false c.in-Ok.years y p (sym a ∙ c.if-not-content_agrees.true))
 
 pub returns-clause-refusal : goal.returns-clause-refusal
 returns-clause-refusal c =
     let y = rw (c.number_at.ensures.0, c.number_at-2.ensures.0) at c.in-Ok.ensures in
     let p = sym c.all_placed.ensures ∙ c.if-not-all_placed.false in
-    sym (alike c.in_ok-wing.wing c.args.wing c.args.sheet.now c.in_ok-wing.ensures c.if-sheet-lt16.false c.in-Ok.years y p (sym c.content_agrees.ensures ∙ c.if-not-content_agrees.false))
+    let a = rw c.number.ensures at c.content_agrees.ensures in
+    sym (alike c.in_ok-wing.wing c.args.wing c.args.sheet.now c.in_ok-wing.ensures c.if-sheet-lt16.false c.in-Ok.years y p (sym a ∙ c.if-not-content_agrees.false))
