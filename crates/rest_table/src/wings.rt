@@ -49,8 +49,7 @@ impl Wing {
     }
 
     // Is there such a row in its table? Wing 1's is searched first for either wing: what wing 1 keeps the guest wing keeps
-    // too. It is asked of every day of a year, and stands where it is asked.
-    #[inline(always)]
+    // too.
     pub fn kept(self, row: u64) -> bool
         ensures { result ≡ elem row (table_of (number_of self)) }
     {
@@ -64,7 +63,6 @@ impl Wing {
     }
 
     // A step, for dates of a year whose New Year falls on this weekday, which may be counted on past 7: is it a rest day?
-    #[inline(always)]
     pub fn rest_on(self, weekday: u64, date: YearDate) -> bool
         requires { (weekday ≤ 400) × ((date.after ≤ 400) × ((date.month ≤ 13) × (date.day ≤ 400))) }
         ensures { result ≡ rest_on (table_of (number_of self)) weekday date }
