@@ -2,7 +2,6 @@ use Rattle.std.proofs.Common.{◌≡◌, refl, sym, ◌∙◌, true}
 use Rattle.laws.specs.Runs.{each_of, elem}
 use Rattle.laws.proofs.Tests.{of}
 use Rattle.rest.specs.Table.{rest_table, guest_table}
-use Rattle.rest.specs.Wings.{table_of}
 use Rattle.rest.proofs.Tables.{of_both}
 use Rattle.rest_table.specs.Wing.{number_of}
 use Rattle.rest_table.proofs.Rows.{hall_rows, guest_rows, any_elem}

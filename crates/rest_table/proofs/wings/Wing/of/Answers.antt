@@ -1,4 +1,3 @@
-use Rattle.std.proofs.Common.{refl}
 use Rattle.rest.proofs.Tables.{guest_table_lem}
 use Rattle.rest_table.proofs.wings.Wing.of.Goals as goal
 
