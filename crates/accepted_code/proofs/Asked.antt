@@ -14,7 +14,7 @@ use Rattle.content.specs.Content.{content_agrees}
 use Rattle.content_code.specs.Steps.{RowsWithin}
 use Rattle.accepted.specs.Check.{years_told, first_told, placed, loaded_refusal}
 use Rattle.accepted.proofs.Accepted.{all_fit, rows_inside}
-use Rattle.sheet_years.proofs.Wings.{known_wing}
+use Rattle.rest_table.proofs.Numbered.{known_wing}
 use Rattle.sheet_years.specs.Asked.{strange, Holds}
 use Rattle.sheet_years.specs.declared.years.Years.{Years}
 

@@ -2,7 +2,7 @@
 // ask_runs, ask_lists, ask_pages and ask_sheets.
 #![tactic(auto)]
 
-use ask_held::Held;
+use ask_held::{Held, Sheet};
 use asking::Question;
 use std::io;
 use std::io::Read;
@@ -25,7 +25,12 @@ fn turn(input: &mut impl Read, out: &impl Print, bytes: &[u8], held: &mut Held) 
 // Nothing says that the input ends: so the turns are counted, up to a number that no run uses up.
 fn main(rt: HostRuntime) -> io::Result<()> {
     let mut input = rt.stdin();
-    let mut held = Held::new();
+    let mut one = Sheet::new();
+    let mut two = Sheet::new();
+    let mut held = Held {
+        sheet: &mut one,
+        other: &mut two,
+    };
     for _ in 0..u64::MAX {
         let mut space = [0; LONGEST];
         let n = reading::read_lines(&mut input, 1, &mut space)?;

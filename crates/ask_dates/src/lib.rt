@@ -8,14 +8,14 @@
 
 mod of_day;
 
-use answering::Answer;
+use answering::{Answer, bits};
 use asking::Question;
 use civil_code::{Calendar, Gregorian, Julian};
 pub use of_day::OfDay;
 
 pub(crate) fn stretch(wing: u64, day: u64) -> Answer {
     let s = stretch_code::stretch(wing, day);
-    Answer::from([s.refusal, s.first, s.length, s.days_left.cast_unsigned()])
+    Answer::from([s.refusal, s.first, s.length, bits(s.days_left)])
 }
 
 fn month_length(year: u64, month: u64) -> Answer {

@@ -1,5 +1,5 @@
 // The calls of a day.
-use answering::Answer;
+use answering::{Answer, bits};
 use civil_code::{Gregorian, Julian};
 
 #[derive(Clone, Copy)]
@@ -51,12 +51,7 @@ fn weekday(day: u64) -> Answer {
 }
 
 fn civil_date(date: civil::CivilDate) -> Answer {
-    Answer::from([
-        date.refusal,
-        date.year.cast_unsigned(),
-        date.month,
-        date.day,
-    ])
+    Answer::from([date.refusal, bits(date.year), date.month, date.day])
 }
 
 fn hebrew_date(day: u64) -> Answer {

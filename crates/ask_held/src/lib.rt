@@ -8,20 +8,14 @@ mod held_sheet;
 pub use held_sheet::{Sheet, Written};
 use std::mem;
 
+// Each is its owner's, and lent: to exchange them moves no byte.
 #[derive(Drop)]
-pub struct Held {
-    pub sheet: Sheet,
-    pub other: Sheet,
+pub struct Held<'a> {
+    pub sheet: &'a mut Sheet,
+    pub other: &'a mut Sheet,
 }
 
-impl Held {
-    pub fn new() -> Self {
-        Held {
-            sheet: Sheet::new(),
-            other: Sheet::new(),
-        }
-    }
-
+impl<'a> Held<'a> {
     // The sheet becomes the other one, and the other the sheet.
     pub fn exchange(&mut self)
         ensures sheet { self.new.sheet ≡ self.old.other }

@@ -9,7 +9,7 @@
 //                                          setting, and how many moves on and back left it as set afresh to the day due
 #![tactic(auto)]
 
-use answering::Answer;
+use answering::{Answer, bits};
 use asking::Question;
 use record::{DayRecord, Moved};
 
@@ -28,7 +28,7 @@ fn told(moved: Moved) -> Answer {
         r.date,
         r.first,
         r.length,
-        r.days_left.cast_unsigned(),
+        bits(r.days_left),
         r.none,
         r.remaining,
         r.fast_month,

@@ -4,7 +4,7 @@
 use answering::sum;
 use asking::Run;
 use loaded::{Row, RowsAnswer};
-use refusals::Refusal;
+use loaded_code::NoRows;
 use show::mixed;
 use std::io;
 
@@ -12,7 +12,7 @@ use std::io;
 fn print_place(
     out: &impl Print,
     place: RowsAnswer,
-    shown: Result<&[u8], Refusal>,
+    shown: Result<&[u8], NoRows>,
 ) -> io::Result<()> {
     print!(out;
         "{} {} {}; shown ",
@@ -20,7 +20,12 @@ fn print_place(
     )?;
     match shown {
         Ok(part) => println!(out; "0 {}: {}", part.len(), sum(part)),
-        Err(why) => println!(out; "{} 0: 0", why.number()),
+        Err(none) => println!(out;
+            "{} {}: {}",
+            none.why.number(),
+            none.part.len(),
+            sum(none.part)
+        ),
     }
 }
 

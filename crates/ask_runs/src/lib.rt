@@ -43,13 +43,12 @@ fn sum(call: Call, run: Run) -> Option<Answer> {
     let mut fields = None;
     for number in run {
         let answer = call.answer(number);
-        fields = answer.as_ref().map(|answer| answer.fields.len());
+        fields = answer.map(|answer| answer.fields().len());
         if let Some(answer) = answer {
             sums.mix(&answer);
         }
     }
-    sums.fields.truncate(fields?);
-    Some(sums)
+    Some(sums.first(fields?))
 }
 
 // Whether each field that is named has the value beside it.

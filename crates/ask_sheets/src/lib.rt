@@ -60,7 +60,7 @@ fn change(out: &impl Print, question: Question, held: &mut Held) -> Option<io::R
         }
         (b"length", &[length]) => held.sheet.set_length(length)?,
         (b"put", &[at, bytes, number]) => held.sheet.put(at, bytes, number)?,
-        (b"copy", &[from, to]) => held.sheet.copy(&held.other, from, to)?,
+        (b"copy", &[from, to]) => held.sheet.copy(held.other, from, to)?,
         (b"exchange", &[]) => held.exchange(),
         _ => return None,
     }

@@ -10,15 +10,12 @@ use Rattle.std.proofs.lemmas.Bool.Decides.{nat_tests}
 use Rattle.laws.specs.Runs.{outside}
 use Rattle.refusals.specs.Refusals.{number_of}
 use Rattle.refusals.specs.declared.Refusal.{Refusal}
+use Rattle.refusals.proofs.Named.{numbered}
 use Rattle.sheet.specs.Promises.{offset_told, rows_told}
 use Rattle.accepted.specs.Check.{years_told, first_told, loaded_refusal}
 use Rattle.accepted.proofs.Refusal.{accepted}
 use Rattle.loaded.specs.Rows.{no_rows, rows_answer}
 use Rattle.loaded.proofs.Answers.{rows_refused, rows_of_sheet}
-
--- Each refusal has a number.
-pub numbered : (why : Refusal) → 1 ≤ number_of why
-numbered why = grind arith
 
 pub off : (first count year : ℕ) → 1 ≤ count → false ≡ is_le (nat_cmp first year) && is_lt (nat_cmp year (first + count)) → outside first (first + count - 1) year ≡ true
 off first count year p e = grind (arith, nat_tests)

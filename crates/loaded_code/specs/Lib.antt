@@ -1,2 +1,3 @@
 pub mod Place
+pub mod Shown
 pub mod Walker

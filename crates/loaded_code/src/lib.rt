@@ -5,4 +5,4 @@ mod walk;
 mod years;
 
 pub use walk::{Walker, begin, first_row, step_at};
-pub use years::{rows_place, sheet_rows, sheets_place, sheets_rows};
+pub use years::{NoRows, rows_place, sheet_rows, sheets_place, sheets_rows};

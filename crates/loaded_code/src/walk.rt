@@ -52,9 +52,9 @@ pub fn step_at(sheet: &[u8], row: u64) -> Stepped
 pub fn first_row(wing: u64, sheet: &[u8]) -> Begun
     ensures { result ≡ begun_at wing sheet.now }
 {
-    match accepted_code::accepted_years(wing, sheet) {
-        Ok(_) => Begun { refusal: 0, row: 0 },
-        Err(why) => Begun {
+    match accepted_code::sheet_refusal(wing, sheet) {
+        None => Begun { refusal: 0, row: 0 },
+        Some(why) => Begun {
             refusal: why.number(),
             row: ENDED_ROW,
         },

@@ -1,8 +1,8 @@
 // A year's own rows, in one sheet and in the one of two that is named.
-ghost use Rattle.std.specs.Prelude.{◌≡◌, ◌+◌, IfOk};
-ghost use Rattle.refusals.specs.Refusals.{refusal_in};
+ghost use Rattle.std.specs.Prelude.{◌≡◌, ◌+◌};
 ghost use Rattle.loaded.specs.Rows.{rows_answer, rows_of, named_sheet, named_answer};
 ghost use Rattle.loaded_code.specs.Place.{IsPlace};
+ghost use Rattle.loaded_code.specs.Shown.{shown, refusal_told};
 
 use layout_code::number_at;
 use loaded::RowsAnswer;
@@ -18,11 +18,14 @@ struct Place {
 fn year_place(wing: u64, sheet: &[u8], year: u64) -> Result<Place, Refusal>
     ensures { IsPlace (rows_answer wing sheet.now year) result }
 {
-    let years = accepted_code::accepted_years(wing, sheet)?;
-    if !(years.first..years.first + years.count).contains(&year) {
+    if let Some(why) = accepted_code::sheet_refusal(wing, sheet) {
+        return Err(why);
+    }
+    let first_year = number_at::<2>(sheet, 2);
+    if !(first_year..first_year + number_at::<2>(sheet, 0)).contains(&year) {
         return Err(Refusal::BadYear);
     }
-    let entry = 16 + 8 * (year - years.first) as usize;
+    let entry = 16 + 8 * (year - first_year) as usize;
     Ok(Place {
         offset: number_at::<4>(sheet, entry),
         length: 6 * number_at::<2>(sheet, entry + 4),
@@ -47,17 +50,31 @@ pub fn rows_place(wing: u64, sheet: &[u8], year: u64) -> RowsAnswer
     }
 }
 
+// Why no rows are shown, and the empty part that is shown in their place, at the sheet's first byte.
+#[derive(Clone, Copy)]
+pub struct NoRows<'a> {
+    pub why: Refusal,
+    pub part: &'a [u8],
+}
+
 // A year's rows, still inside the sheet. Refused as `rows_place` is.
-pub fn sheet_rows<'a>(wing: u64, sheet: &'a [u8], year: u64) -> Result<&'a [u8], Refusal>
-    ensures refusal { refusal_in result ≡ (rows_answer wing sheet.now year).refusal }
-    ensures part { IfOk result (λ part. (part.now ≡ rows_of sheet.now (rows_answer wing sheet.now year))
-        × (part.ref_ptr.0 ≡ sheet.entry.ref_ptr.0)
-        × (part.ref_ptr.1 ≡ sheet.entry.ref_ptr.1 + (rows_answer wing sheet.now year).offset)) }
+pub fn sheet_rows<'a>(wing: u64, sheet: &'a [u8], year: u64) -> Result<&'a [u8], NoRows<'a>>
+    ensures { ((shown result).now ≡ rows_of sheet.now (rows_answer wing sheet.now year))
+        × (refusal_told result ≡ (rows_answer wing sheet.now year).refusal)
+        × ((shown result).ref_ptr.0 ≡ sheet.entry.ref_ptr.0)
+        × ((shown result).ref_ptr.1 ≡ sheet.entry.ref_ptr.1 + (rows_answer wing sheet.now year).offset) }
 {
-    let place = year_place(wing, sheet, year)?;
-    let start = place.offset as usize;
-    let end = start + place.length as usize;
-    Ok(&sheet[start..end])
+    match year_place(wing, sheet, year) {
+        Ok(place) => {
+            let start = place.offset as usize;
+            let end = start + place.length as usize;
+            Ok(&sheet[start..end])
+        }
+        Err(why) => Err(NoRows {
+            why,
+            part: &sheet[..0],
+        }),
+    }
 }
 
 // The same of two sheets, wing 1's and wing 2's, by the number of the one that is named, which names the wing too. Refusal 15,
@@ -72,17 +89,18 @@ pub fn sheets_place(named: u64, sheet_1: &[u8], sheet_2: &[u8], year: u64) -> Ro
     }
 }
 
-// A year's rows, still inside the sheet that is named. Refused as `sheets_place` is.
+// A year's rows, still inside the sheet that is named. Refused as `sheets_place` is; where neither sheet is named the empty part
+// is one of sheet 1.
 pub fn sheets_rows<'a>(
     named: u64,
     sheet_1: &'a [u8],
     sheet_2: &'a [u8],
     year: u64,
-) -> Result<&'a [u8], Refusal>
-    ensures refusal { refusal_in result ≡ (named_answer named sheet_1.now sheet_2.now year).refusal }
-    ensures part { IfOk result (λ part. (part.now ≡ rows_of (named_sheet named sheet_1.now sheet_2.now) (named_answer named sheet_1.now sheet_2.now year))
-        × (part.ref_ptr.0 ≡ named_sheet named sheet_1.entry.ref_ptr.0 sheet_2.entry.ref_ptr.0)
-        × (part.ref_ptr.1 ≡ named_sheet named sheet_1.entry.ref_ptr.1 sheet_2.entry.ref_ptr.1 + (named_answer named sheet_1.now sheet_2.now year).offset)) }
+) -> Result<&'a [u8], NoRows<'a>>
+    ensures { ((shown result).now ≡ rows_of (named_sheet named sheet_1.now sheet_2.now) (named_answer named sheet_1.now sheet_2.now year))
+        × (refusal_told result ≡ (named_answer named sheet_1.now sheet_2.now year).refusal)
+        × ((shown result).ref_ptr.0 ≡ named_sheet named sheet_1.entry.ref_ptr.0 sheet_2.entry.ref_ptr.0)
+        × ((shown result).ref_ptr.1 ≡ named_sheet named sheet_1.entry.ref_ptr.1 sheet_2.entry.ref_ptr.1 + (named_answer named sheet_1.now sheet_2.now year).offset) }
 {
     if named == 2 {
         sheet_rows(named, sheet_2, year)

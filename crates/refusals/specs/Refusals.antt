@@ -1,5 +1,5 @@
 -- The number that stands for each refusal in an answer.
-use Rattle.std.specs.Prelude.{ℕ, Result, Ok, Err}
+use Rattle.std.specs.Prelude.{ℕ, Option, Some, None, Result, Ok, Err}
 use Rattle.refusals.specs.declared.Refusal.{Refusal}
 use Rattle.refusals.specs.declared.Refusal.TheVariants.{BadYear, BadMonth, BadDay, DayOutOfRange, BadCivilYear, BadCivilMonth, BadCivilDay, CivilDateOutOfRange, NoStretch, BufferTooShort, BadYearCount, BadFigure, NeedExceedsCapacity, HoursDoNotFit, BadWing, SheetTooShort, BadSheetYears, BadSheetLayout, BadSheetContent}
 
@@ -28,3 +28,8 @@ number_of BadSheetContent = 19
 abbrev pub refusal_in : {A : Type 0} → Result A Refusal → ℕ
 refusal_in (Ok _) = 0
 refusal_in (Err why) = number_of why
+
+-- Of what is refused, if anything is.
+abbrev pub number_if : Option Refusal → ℕ
+number_if (Some why) = number_of why
+number_if None = 0

@@ -17,10 +17,10 @@ pub const REST_ROWS: usize = 8;
 pub const GUEST_ROWS: usize = 13;
 
 // Wing 1: Tishri 1, 2, 10, 15, 22; Nisan 15, 21; Sivan 6. A row is 100 × month code + day.
-pub static REST_TABLE: [u64; REST_ROWS] = [1_01, 1_02, 1_10, 1_15, 1_22, 8_15, 8_21, 10_06];
+pub const REST_TABLE: [u64; REST_ROWS] = [1_01, 1_02, 1_10, 1_15, 1_22, 8_15, 8_21, 10_06];
 
 // Wing 2, the guest wing: these and second days, Tishri 16, 23; Nisan 16, 22; Sivan 7.
-pub static GUEST_TABLE: [u64; GUEST_ROWS] = [
+pub const GUEST_TABLE: [u64; GUEST_ROWS] = [
     1_01, 1_02, 1_10, 1_15, 1_16, 1_22, 1_23, 8_15, 8_16, 8_21, 8_22, 10_06, 10_07,
 ];
 

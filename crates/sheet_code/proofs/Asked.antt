@@ -14,7 +14,7 @@ use Rattle.rest_table.specs.declared.wings.Wing.{Wing}
 use Rattle.sheet.specs.Sheet.{most_years}
 use Rattle.sheet.specs.Answers.{ends_outside, sheet_answer, sheet_buffer, wing_sheet, wing_sheet_buffer}
 use Rattle.sheet_code.specs.Steps.{written_answer, written_buffer}
-use Rattle.sheet_years.proofs.Wings.{known_wing}
+use Rattle.rest_table.proofs.Numbered.{known_wing}
 use Rattle.sheet_years.specs.Asked.{Holds, Refused}
 use Rattle.sheet_years.specs.declared.years.Years.{Years}
 

@@ -1,3 +1,3 @@
+pub mod Answers
 pub mod Listed
 pub mod Pairs
-pub mod Wings

@@ -2,7 +2,7 @@
 ghost use Rattle.std.specs.Prelude.{◌≡◌, ◌≤◌};
 ghost use Rattle.std.proofs.Math.IntN.{sub_ℕ};
 ghost use Rattle.days.specs.Range.{InRange};
-ghost use Rattle.newyear.specs.NewYear.{year_of};
+ghost use Rattle.newyear.specs.NewYear.{new_year as the_new_year, year_length, year_of};
 ghost use Rattle.rest.specs.Wings.{table_of};
 ghost use Rattle.rest_table.specs.Wing.{number_of};
 ghost use Rattle.stretch.specs.Answers.{stretch_answer, wing_stretch};
@@ -24,18 +24,19 @@ pub fn days_left(first: u64, day: u64) -> i64
     (first as i64) - (day as i64)
 }
 
-// A step, for a day in range and the span of its year. None where no stretch in range ends on or after the day.
-pub fn stretch_in(wing: Wing, day: u64, span: Span) -> Option<NextStretch>
-    requires { (InRange day) × (span.year ≡ year_of day) }
+// A step, for a day in range, by the New Year and the length of its year. None where no stretch in range ends on or after the
+// day.
+pub fn stretch_of(wing: Wing, day: u64, new_year: u64, length: u64) -> Option<NextStretch>
+    requires { (InRange day) × ((new_year ≡ the_new_year (year_of day)) × (length ≡ year_length (year_of day))) }
     ensures { found_answer result ≡ stretch_answer (table_of (number_of wing)) day }
 {
     let year = YearDays {
         wing,
-        weekday: days::weekday_of(span.new_year),
-        length: span.length,
+        weekday: days::weekday_of(new_year),
+        length,
     };
-    let run = year.run_for(day - span.new_year);
-    let first = span.new_year + run.first;
+    let run = year.run_for(day - new_year);
+    let first = new_year + run.first;
     if days::LAST_DAY < first {
         return None;
     }
@@ -44,6 +45,14 @@ pub fn stretch_in(wing: Wing, day: u64, span: Span) -> Option<NextStretch>
         length: run.past - run.first,
         days_left: days_left(first, day),
     })
+}
+
+// A step, for a day in range and the span of its year. None as above.
+pub fn stretch_in(wing: Wing, day: u64, span: Span) -> Option<NextStretch>
+    requires { (InRange day) × (span.year ≡ year_of day) }
+    ensures { found_answer result ≡ stretch_answer (table_of (number_of wing)) day }
+{
+    stretch_of(wing, day, span.new_year, span.length)
 }
 
 // A step, for the days of the range. None as above.

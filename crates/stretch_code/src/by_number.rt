@@ -6,22 +6,16 @@ ghost use Rattle.rest.specs.Wings.{table_of};
 ghost use Rattle.stretch.specs.Answers.{stretch_answer};
 
 use crate::asked;
-use newyear_code::Span;
 use refusals::Refusal;
 use rest_table::Wing;
 use stretch::StretchAnswer;
 
 // A step, for a day in range, by the New Year and the length of its year. Refusal 9 where no stretch in range ends on or after
-// the day. It stays, for any number, since docs/DECISIONS.md names it; `asked::stretch_in` is the same of a `Wing` and a `Span`.
+// the day. It stays, for any number, since docs/DECISIONS.md names it; `asked::stretch_of` is the same of a `Wing`.
 pub fn stretch_in(wing: u64, day: u64, new_year: u64, length: u64) -> StretchAnswer
     requires { (InRange day) × ((new_year ≡ the_new_year (year_of day)) × (length ≡ year_length (year_of day))) }
     ensures { result ≡ stretch_answer (table_of wing) day }
 {
-    let holding = newyear_code::year_holding(day);
-    let span = Span {
-        year: holding.year,
-        new_year,
-        length,
-    };
-    asked::answered(asked::stretch_in(Wing::of(wing), day, span).ok_or(Refusal::NoStretch))
+    let next = asked::stretch_of(Wing::of(wing), day, new_year, length);
+    asked::answered(next.ok_or(Refusal::NoStretch))
 }

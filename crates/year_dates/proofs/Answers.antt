@@ -5,6 +5,7 @@ use Prim.Native.Nat.{ℕ, ◌-◌, ◌<◌}
 use native.Mathlib.Omega.{arith}
 use lib.ListN.{length, get_or}
 use Rattle.std.proofs.Props.{props}
+use Rattle.hebrew.specs.Months.{month_length}
 use Rattle.hebrew.specs.Steps.{year_date}
 use Rattle.hebrew.specs.declared.YearDate.{YearDate}
 use Rattle.year_dates.specs.Walk.{IsWalk, dates}
@@ -14,6 +15,9 @@ use Rattle.year_dates.proofs.Turns.{dates_long, date_at}
 
 is_walk_prop : (len : ℕ) (date : YearDate) → IsProp (IsWalk len date)
 is_walk_prop len date = Prim.hlevel props
+
+is_set_ℕ : (a b : ℕ) → IsProp (a ≡ b)
+is_set_ℕ a b = Prim.hlevel props
 
 is_at : (len x : ℕ) (r : Dates) → x < len → left r ≡ dates len x (len - x) → (r.length ≡ len) × (r.date ≡ year_date len x)
 unfolding left year_date
@@ -32,8 +36,11 @@ dates_from_one len x r s h p q =
     let b = is_at len x s h q in
     let n = a.0 ∙ sym b.0 in
     let d = a.1 ∙ sym b.1 in
+    let m = r.counted ∙ (λ i. month_length (n i) ((d i).month)) ∙ sym s.counted in
     λ i. record {
       length = n i;
       date = d i;
+      days = m i;
       is_walk = is_prop→PathP (λ j. IsWalk (n j) (d j)) (λ j. is_walk_prop (n j) (d j)) r.is_walk s.is_walk i;
+      counted = is_prop→PathP (λ j. m j ≡ month_length (n j) ((d j).month)) (λ j. is_set_ℕ (m j) (month_length (n j) ((d j).month))) r.counted s.counted i;
     }

@@ -3,7 +3,9 @@ use mathlib.Core.Path.{◌≡◌, sym, ◌∙◌, ap}
 use mathlib.Core.List.{[], ◌∷◌}
 use Prim.Native.Nat.{ℕ, suc, ◌+◌, ◌-◌, ◌≤◌, ◌<◌}
 use native.Mathlib.Omega.{arith}
+use borrow.Author.Tests.{lt-ltb}
 use Rattle.newyear.specs.Kinds.{IsLength}
+use Rattle.hebrew.specs.Months.{month_length}
 use Rattle.hebrew.specs.Steps.{year_date, tomorrow}
 use Rattle.hebrew.specs.declared.YearDate.{YearDate}
 use Rattle.hebrew.proofs.Walked.{date_small, tomorrow_is}
@@ -15,6 +17,13 @@ unfolding year_date
 walks len x date k u e =
     let a = ap (λ (d : YearDate). d.after) e in
     record { measured = k; within = omega (arith, a); of_year = e ∙ ap (year_date len) (sym a) }
+
+-- A date that is not its month's last has the next in the same month.
+pub same_month :
+    (len days : ℕ) (date : YearDate) → days ≡ month_length len date.month → date.day < days →
+    ◌≡◌ {A = YearDate} (record { after = date.after + 1; month = date.month; day = date.day + 1 }) (tomorrow len date)
+unfolding tomorrow
+same_month len days date e p = rw (lt-ltb date.day (month_length len date.month) (omega (arith, e)))
 
 module _ (len : ℕ) (date : YearDate) (w : IsWalk len date) where
   pub small : (date.after ≤ 400) × ((date.month ≤ 13) × (date.day ≤ 400))

@@ -2,6 +2,7 @@
 ghost use Rattle.std.specs.Prelude.{◌≡◌, ◌-◌, ◌<◌};
 ghost use Rattle.std.specs.Iterator.{YieldsFirst, item_count};
 ghost use Rattle.newyear.specs.Kinds.{IsLength};
+ghost use Rattle.hebrew.specs.Steps.{tomorrow};
 ghost use Rattle.year_dates.specs.Walk.{dates};
 ghost use Rattle.year_dates.specs.Left.{left};
 
@@ -13,9 +14,35 @@ pub fn dates_from(length: u64, after: u64) -> Dates
     requires { (IsLength length) × (after < length) }
     ensures { left result ≡ dates length after (length - after) }
 {
+    let date = hebrew_months::date_after(length, after);
     Dates {
         length,
-        date: hebrew_months::date_after(length, after),
+        date,
+        days: hebrew_months::days_in(length, date.month),
+    }
+}
+
+impl Dates {
+    // From one date to the next: in the same month while it has days left.
+    fn moved_on(self) -> Dates
+        requires { self.date.after < self.length }
+        ensures { (result.length ≡ self.length) × (result.date ≡ tomorrow self.length self.date) }
+    {
+        let Dates { length, date, days } = self;
+        if date.day < days {
+            let date = YearDate {
+                after: date.after + 1,
+                month: date.month,
+                day: date.day + 1,
+            };
+            return Dates { length, date, days };
+        }
+        let date = hebrew_months::next_date(length, date);
+        Dates {
+            length,
+            date,
+            days: hebrew_months::days_in(length, date.month),
+        }
     }
 }
 
@@ -31,7 +58,7 @@ impl Iterator for Dates {
         if self.length <= date.after {
             return None;
         }
-        self.date = hebrew_months::next_date(self.length, date);
+        *self = self.moved_on();
         Some(date)
     }
 }

@@ -2,15 +2,15 @@ use mathlib.Core.Path.{sym}
 use native.Mathlib.Omega.{arith}
 use Rattle.loaded.specs.Walk.{ended_row, begun_at}
 use Rattle.accepted.proofs.Accepted.{where_accepted, where_refused}
-use Rattle.loaded_code.proofs.Placed.{numbered}
+use Rattle.refusals.proofs.Named.{numbered}
 use Rattle.loaded_code.proofs.walk.first_row.Goals as goal
 
-pub returns-in-Ok : goal.returns-in-Ok
+pub returns-in-None : goal.returns-in-None
 unfolding begun_at
-returns-in-Ok c = sym (where_accepted c.args.wing c.args.sheet.now (λ n. record { refusal = n; row = ended_row }) _ (sym c.in-Ok.ensures.refusal))
+returns-in-None c = sym (where_accepted c.args.wing c.args.sheet.now (λ n. record { refusal = n; row = ended_row }) _ (sym c.in-None.ensures))
 
-pub returns-in-Err : goal.returns-in-Err
+pub returns-in-Some : goal.returns-in-Some
 unfolding begun_at
-returns-in-Err c =
-    let e = c.in-Err.ensures.refusal in
-    rw (c.number.ensures, e) (sym (where_refused c.args.wing c.args.sheet.now (λ n. record { refusal = n; row = ended_row }) _ (λ z. omega (arith, e, z, numbered c.in-Err.why))))
+returns-in-Some c =
+    let e = c.in-Some.ensures in
+    rw (c.number.ensures, e) (sym (where_refused c.args.wing c.args.sheet.now (λ n. record { refusal = n; row = ended_row }) _ (λ z. omega (arith, e, z, numbered c.in-Some.why))))

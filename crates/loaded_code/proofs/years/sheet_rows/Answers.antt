@@ -4,8 +4,8 @@ use Rattle.loaded_code.proofs.years.sheet_rows.Goals as goal
 
 pub overflow_add-end : goal.overflow_add-end
 overflow_add-end c =
-    let inside = rw c.in_ok-place.ensures at (within_sheet c.args.wing c.args.sheet.now c.args.year) in
+    let inside = rw c.in-Ok.ensures at (within_sheet c.args.wing c.args.sheet.now c.args.year) in
     record { fits = omega arith }
 
 pub slice_bounds-result-end : goal.slice_bounds-result-end
-slice_bounds-result-end c = rw c.in_ok-place.ensures at (within_sheet c.args.wing c.args.sheet.now c.args.year)
+slice_bounds-result-end c = rw c.in-Ok.ensures at (within_sheet c.args.wing c.args.sheet.now c.args.year)
