@@ -7,6 +7,8 @@
 //     sum_fasts 1 9999         the fasts of each of these years, mixed into one number
 #![tactic(auto)]
 
+ghost use Rattle.std.specs.Prelude.{◌≤◌, length};
+
 use asking::{Question, Run};
 use lists::ListAnswer;
 use show::mixed;
@@ -47,6 +49,17 @@ impl List {
     }
 }
 
+// How many entries from a place on hold what they held. An entry counts once.
+fn kept(lent: &[u64], from: usize) -> usize
+    ensures { result ≤ length lent.now }
+{
+    lent.iter()
+        .enumerate()
+        .skip(from)
+        .filter(|(i, entry)| **entry == pattern(*i))
+        .count()
+}
+
 // The entries that are written, and how many of the others hold what they held.
 fn print_list(out: &impl Print, list: List, year: u64, lent: &mut [u64]) -> io::Result<()> {
     for (i, entry) in lent.iter_mut().enumerate() {
@@ -58,13 +71,7 @@ fn print_list(out: &impl Print, list: List, year: u64, lent: &mut [u64]) -> io::
     for entry in lent.iter().take(written) {
         print!(out; " {entry}")?;
     }
-    let kept = lent
-        .iter()
-        .enumerate()
-        .skip(written)
-        .filter(|(i, entry)| **entry == pattern(*i))
-        .count();
-    println!(out; "; kept {kept}")
+    println!(out; "; kept {}", kept(lent, written))
 }
 
 // None for more entries than can be lent.
